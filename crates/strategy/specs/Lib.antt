@@ -1,0 +1,7 @@
+pub mod Few
+pub mod Legs
+pub mod Reordering
+pub mod Forms
+pub mod Payoff
+pub mod Prices
+pub mod Verdicts
