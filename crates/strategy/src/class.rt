@@ -3,7 +3,7 @@ ghost use mathlib.Core.Path.{_≡_};
 ghost use mathlib.Core.List.{[], _∷_};
 ghost use Rattle.std.specs.Orderings.{Decides};
 ghost use Rattle.strategy.specs.Few.{listed};
-ghost use Rattle.strategy.specs.Legs.{buy, sell};
+ghost use Rattle.strategy.specs.Legs.{option, buy, sell};
 ghost use Rattle.strategy.specs.Reordering.{Reordered};
 ghost use Rattle.strategy.specs.Forms.{vertical, calendar, butterfly, box, IsBought, IsVertical, IsCalendar, IsButterfly, IsBox, Finds, Formed, Classified, className};
 use crate::leg::Kind;
@@ -80,41 +80,46 @@ fn same_four(a: Leg, b: Leg, c: Leg, d: Leg, x: Leg, y: Leg, z: Leg, w: Leg) -> 
         | a.same(w) & same_three(b, c, d, x, y, z)
 }
 
-fn buy(ratio: u8, series: Series) -> Leg
-    ensures { λ r. ⌜ r ≡ buy ratio series ⌝ }
+// A bought leg in a series like another but for its kind and strike.
+fn buy(ratio: u8, like: Series, kind: Kind, strike: u32) -> Leg
+    ensures { λ r. ⌜ r ≡ buy ratio (option (like .underlying) kind strike (like .expiry)) ⌝ }
 {
     Leg {
         side: Side::Buy,
         ratio,
-        series,
+        series: Series {
+            kind,
+            strike,
+            ..like
+        },
     }
 }
 
-fn sell(ratio: u8, series: Series) -> Leg
-    ensures { λ r. ⌜ r ≡ sell ratio series ⌝ }
+// The same, sold.
+fn sell(ratio: u8, like: Series, kind: Kind, strike: u32) -> Leg
+    ensures { λ r. ⌜ r ≡ sell ratio (option (like .underlying) kind strike (like .expiry)) ⌝ }
 {
     Leg {
         side: Side::Sell,
         ratio,
-        series,
+        series: Series {
+            kind,
+            strike,
+            ..like
+        },
     }
 }
 
 // The legs of a long vertical.
-fn vertical(series: Series, low: u32, high: u32) -> (Leg, Leg)
-    ensures { λ r. ⌜ r .0 ∷ r .1 ∷ [] ≡ vertical (series .underlying) (series .kind) low high (series .expiry) ⌝ }
+fn vertical(like: Series, low: u32, high: u32) -> (Leg, Leg)
+    ensures { λ r. ⌜ r .0 ∷ r .1 ∷ [] ≡ vertical (like .underlying) (like .kind) low high (like .expiry) ⌝ }
 {
-    let lower = Series {
-        strike: low,
-        ..series
-    };
-    let higher = Series {
-        strike: high,
-        ..series
-    };
-    match series.kind {
-        Kind::Call => (buy(1, lower), sell(1, higher)),
-        Kind::Put => (buy(1, higher), sell(1, lower)),
+    match like.kind {
+        Kind::Call => (
+            buy(1, like, Kind::Call, low),
+            sell(1, like, Kind::Call, high),
+        ),
+        Kind::Put => (buy(1, like, Kind::Put, high), sell(1, like, Kind::Put, low)),
     }
 }
 
@@ -132,26 +137,25 @@ fn vertical_width(a: Leg, b: Leg) -> Option<u32>
     }
 }
 
+// A leg of ratio 1 in a series like another but for its expiry.
+fn dated(side: Side, like: Series, expiry: u16) -> Leg
+    ensures { λ r. ⌜ r ≡ record { side = side; ratio = 1; series = option (like .underlying) (like .kind) (like .strike) expiry } ⌝ }
+{
+    Leg {
+        side,
+        ratio: 1,
+        series: Series { expiry, ..like },
+    }
+}
+
 // Whether the legs are a long calendar.
 fn is_calendar(a: Leg, b: Leg) -> bool
     ensures { λ r. ⌜ Decides r (IsCalendar 0 (a ∷ b ∷ [])) ⌝ }
 {
     let near = a.series.expiry.min(b.series.expiry);
     let later = a.series.expiry.max(b.series.expiry);
-    let bought = buy(
-        1,
-        Series {
-            expiry: later,
-            ..a.series
-        },
-    );
-    let sold = sell(
-        1,
-        Series {
-            expiry: near,
-            ..a.series
-        },
-    );
+    let bought = dated(Side::Buy, a.series, later);
+    let sold = dated(Side::Sell, a.series, near);
     (near < later) & same_two(a, b, bought, sold)
 }
 
@@ -163,27 +167,9 @@ fn butterfly_width(a: Leg, b: Leg, c: Leg) -> Option<u32>
     let high = a.series.strike.max(b.series.strike).max(c.series.strike);
     let width = (high - low) / 2;
     let middle = low + width;
-    let lower = buy(
-        1,
-        Series {
-            strike: low,
-            ..a.series
-        },
-    );
-    let sold = sell(
-        2,
-        Series {
-            strike: middle,
-            ..a.series
-        },
-    );
-    let higher = buy(
-        1,
-        Series {
-            strike: high,
-            ..a.series
-        },
-    );
+    let lower = buy(1, a.series, a.series.kind, low);
+    let sold = sell(2, a.series, a.series.kind, middle);
+    let higher = buy(1, a.series, a.series.kind, high);
     if 0 < width && middle + width == high && same_three(a, b, c, lower, sold, higher) {
         Some(width)
     } else {
@@ -195,48 +181,14 @@ fn butterfly_width(a: Leg, b: Leg, c: Leg) -> Option<u32>
 fn box_width(a: Leg, b: Leg, c: Leg, d: Leg) -> Option<u32>
     ensures { λ r. ⌜ Finds r (λ w. IsBox w (a ∷ b ∷ c ∷ d ∷ [])) ⌝ }
 {
-    let low = a.series
-        .strike
-        .min(b.series.strike)
-        .min(c.series.strike)
-        .min(d.series.strike);
-    let high = a.series
-        .strike
-        .max(b.series.strike)
-        .max(c.series.strike)
-        .max(d.series.strike);
-    let low_call = buy(
-        1,
-        Series {
-            kind: Kind::Call,
-            strike: low,
-            ..a.series
-        },
-    );
-    let low_put = sell(
-        1,
-        Series {
-            kind: Kind::Put,
-            strike: low,
-            ..a.series
-        },
-    );
-    let high_call = sell(
-        1,
-        Series {
-            kind: Kind::Call,
-            strike: high,
-            ..a.series
-        },
-    );
-    let high_put = buy(
-        1,
-        Series {
-            kind: Kind::Put,
-            strike: high,
-            ..a.series
-        },
-    );
+    let (sa, sb) = (a.series.strike, b.series.strike);
+    let (sc, sd) = (c.series.strike, d.series.strike);
+    let low = sa.min(sb).min(sc).min(sd);
+    let high = sa.max(sb).max(sc).max(sd);
+    let low_call = buy(1, a.series, Kind::Call, low);
+    let low_put = sell(1, a.series, Kind::Put, low);
+    let high_call = sell(1, a.series, Kind::Call, high);
+    let high_put = buy(1, a.series, Kind::Put, high);
     if low < high && same_four(a, b, c, d, low_call, low_put, high_call, high_put) {
         Some(high - low)
     } else {

@@ -16,8 +16,8 @@ returns c =
       later = c .max-later .result;
       apart = h .0;
       flat = refl;
-      legs-are = rw (c .buy-bought .ensures, c .sell-sold .ensures) at (h .1);
+      legs-are = rw (c .dated-bought .ensures, c .dated-sold .ensures) at (h .1);
     })
     (λ v. let r = calendar-read (c .args .a) (c .args .b) v (c .min-near .result) (c .max-later .result) (c .min-near .ensures) (c .max-later .ensures) in
-    (r .0, rw (c .buy-bought .ensures, c .sell-sold .ensures) (r .1)))
+    (r .0, rw (c .dated-bought .ensures, c .dated-sold .ensures) (r .1)))
     (decides-and (ltb (c .min-near .result) (c .max-later .result)) (c .same-two .result) (decides-ltb (c .min-near .result) (c .max-later .result)) (c .same-two .ensures))

@@ -1,0 +1,20 @@
+// The operator's drill before the bell: for each strategy on the sheet, what it is, what it can be worth and what the protections say of its prices.
+mod print;
+mod sheet;
+
+use print::print_row;
+use sheet::rows;
+use std::error::AnyError;
+use venues::board::Board;
+
+fn run(rt: &LibcRuntime) -> Result<(), AnyError> {
+    let mut board = Board::new();
+    for row in &rows() {
+        print_row(rt, &mut board, row)?;
+    }
+    Ok(())
+}
+
+fn main(rt: LibcRuntime) -> Result<(), AnyError> {
+    rt.report(run(&rt))
+}
