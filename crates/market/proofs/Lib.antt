@@ -1,0 +1,3 @@
+pub mod Replaced
+pub mod Nets
+pub mod LegTakes

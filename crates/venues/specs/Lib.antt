@@ -1,0 +1,9 @@
+pub mod Ordered
+pub mod Numbers
+pub mod Quotes
+pub mod Sizes
+pub mod LevelCalls
+pub mod Boards
+pub mod Depths
+pub mod SeriesDepths
+pub mod Ladders
