@@ -1,6 +1,8 @@
 // The operator's drill before the bell: for each strategy on the sheet, what it is, what it can be worth and what the protections say of its prices.
 mod print;
 mod sheet;
+#[cfg(test)]
+mod tests;
 
 use print::print_row;
 use sheet::rows;

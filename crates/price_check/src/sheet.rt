@@ -26,7 +26,7 @@ pub struct Row {
 
 const NO_QUOTE: (i32, i32) = (0, 65535);
 
-fn option(kind: Kind, strike: u32) -> Series {
+pub fn option(kind: Kind, strike: u32) -> Series {
     Series {
         underlying: 1,
         kind,
@@ -35,7 +35,7 @@ fn option(kind: Kind, strike: u32) -> Series {
     }
 }
 
-fn buy(ratio: u8, series: Series) -> Leg {
+pub fn buy(ratio: u8, series: Series) -> Leg {
     Leg {
         side: Side::Buy,
         ratio,
@@ -43,7 +43,7 @@ fn buy(ratio: u8, series: Series) -> Leg {
     }
 }
 
-fn sell(ratio: u8, series: Series) -> Leg {
+pub fn sell(ratio: u8, series: Series) -> Leg {
     Leg {
         side: Side::Sell,
         ratio,
