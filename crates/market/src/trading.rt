@@ -14,8 +14,10 @@ pub trait Market {
     // how many series the market covers
     ghost count: { Self → ℕ };
 
+    // each level is in range and not worse than the next
     law ranked: { (m : Self) (k : ℕ) (s : QuoteSide) → Ranked s (levels m k s) };
 
+    // past the last series there is nothing
     law past: { (m : Self) (k : ℕ) (s : QuoteSide) → count m ≤ k → levels m k s ≡ [] };
 
     // The price and the size of the first level.

@@ -1,6 +1,8 @@
 // The class of a strategy, from its legs in any order.
+ghost use Prim.Native.Nat.{_≤_};
 ghost use mathlib.Core.Path.{_≡_};
 ghost use mathlib.Core.List.{[], _∷_};
+ghost use lib.ListN.{length};
 ghost use Rattle.std.specs.Orderings.{Decides};
 ghost use Rattle.strategy.specs.Few.{listed};
 ghost use Rattle.strategy.specs.Legs.{option, buy, sell};
@@ -26,7 +28,8 @@ pub enum Class {
 impl Class {
     // The word for the class in output.
     pub fn word(self) -> &'static str
-        ensures { λ r. ⌜ now r ≡ className self ⌝ }
+        ensures text { λ r. ⌜ now r ≡ className self ⌝ }
+        ensures short { λ r. ⌜ length (now r) ≤ 9 ⌝ }
     {
         match self {
             Class::Bought => "bought",

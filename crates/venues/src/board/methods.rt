@@ -25,7 +25,7 @@ impl Board {
         }
     }
 
-    // Replaces both sides of a series' quote.
+    // Replaces both sides of a series' quote; the price words 0 and 65535 mean no price.
     pub fn quote(
         &mut self,
         series: i32,

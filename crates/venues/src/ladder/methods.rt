@@ -22,7 +22,8 @@ impl Ladder {
         }
     }
 
-    // Sets the size at one price of a series and side; with size 0, the price leaves.
+    // Sets the size at one price of a series and side and leaves all other prices as they were; with size 0, the price
+    // leaves.
     pub fn level(
         &mut self,
         series: i32,

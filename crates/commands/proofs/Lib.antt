@@ -1,0 +1,5 @@
+pub mod Steps
+pub mod LegLists
+pub mod Sayings
+pub mod Decoding
+pub mod Answering

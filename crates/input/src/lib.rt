@@ -1,0 +1,3 @@
+// Lines of any length from an input, in a fixed amount of memory.
+mod buffer;
+pub mod source;
