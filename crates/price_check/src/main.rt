@@ -17,6 +17,11 @@ fn run(rt: &LibcRuntime) -> Result<(), AnyError> {
     Ok(())
 }
 
+// What goes wrong is told in one line, and ends the program with status 1.
 fn main(rt: LibcRuntime) -> Result<(), AnyError> {
-    rt.report(run(&rt))
+    let ended = run(&rt);
+    if let Err(error) = &ended {
+        let _ = eprintln!(rt, "price_check: {error}");
+    }
+    ended
 }
