@@ -55,7 +55,7 @@ fn is_apart(bid: Option<Level>, offer: Option<Level>) -> bool
 }
 
 // The series of a quote and its two sides, in a market whose series are 0 to last.
-pub fn read_quote(
+pub(crate) fn read_quote(
     last: u32,
     series: i32,
     bid_price: i32,
@@ -79,7 +79,7 @@ pub fn read_quote(
 }
 
 // The series, price and size of a level call, in a market whose series are 0 to last.
-pub fn read_level_call(
+pub(crate) fn read_level_call(
     last: u32,
     series: i32,
     price: i32,

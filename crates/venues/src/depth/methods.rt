@@ -17,7 +17,7 @@ use market::quote::MarketFault;
 use market::quote::QuoteSide;
 
 impl Depth {
-    pub fn new() -> Self
+    pub(crate) fn new() -> Self
         ensures { λ r. ⌜ depthLevels r ≡ [] ⌝ }
     {
         Depth {
@@ -26,7 +26,7 @@ impl Depth {
         }
     }
 
-    pub fn first(&self) -> Option<Level>
+    pub(crate) fn first(&self) -> Option<Level>
         ensures { λ r. ⌜ r ≡ firstOf (depthLevels (now (self .entry))) ⌝ }
     {
         if self.count == 0 {
@@ -65,7 +65,7 @@ impl Depth {
     }
 
     // Takes n contracts from the first level.
-    pub fn take(&mut self, n: u32) -> Result<(), MarketFault>
+    pub(crate) fn take(&mut self, n: u32) -> Result<(), MarketFault>
         ensures answer { λ r. ⌜ r ≡ takeAnswer (depthLevels (now (self .entry))) n ⌝ }
         ensures after { λ _. ⌜ depthLevels (now (self .exit)) ≡ taken (depthLevels (now (self .entry))) n ⌝ }
     {
@@ -102,7 +102,7 @@ impl Depth {
     }
 
     // Sets the size at a price; with size 0, the price leaves.
-    pub fn set(&mut self, side: QuoteSide, price: u16, size: u32) -> Result<(), MarketFault>
+    pub(crate) fn set(&mut self, side: QuoteSide, price: u16, size: u32) -> Result<(), MarketFault>
         requires { ⌜ ordered side (depthLevels (now self)) ≡ true ⌝ }
         ensures answer { λ r. ⌜ r ≡ cond (ninth price size (depthLevels (now (self .entry)))) (Err NinthLevel) (Ok tt) ⌝ }
         ensures after { λ _. ⌜ depthLevels (now (self .exit)) ≡ cond (ninth price size (depthLevels (now (self .entry)))) (depthLevels (now (self .entry))) (withSize side price size (depthLevels (now (self .entry)))) ⌝ }

@@ -13,7 +13,7 @@ use market::quote::MarketFault;
 use market::quote::QuoteSide;
 
 impl SeriesDepth {
-    pub fn new() -> Self
+    pub(crate) fn new() -> Self
         ensures { λ r. ⌜ seriesLevels r ≡ noDepth ⌝ }
     {
         SeriesDepth {
@@ -22,7 +22,7 @@ impl SeriesDepth {
         }
     }
 
-    pub fn first(&self, side: QuoteSide) -> Option<Level>
+    pub(crate) fn first(&self, side: QuoteSide) -> Option<Level>
         ensures { λ r. ⌜ r ≡ firstOf (seriesLevels (now (self .entry)) side) ⌝ }
     {
         match side {
@@ -32,7 +32,7 @@ impl SeriesDepth {
     }
 
     // Takes n contracts from the first level of a side.
-    pub fn take(&mut self, side: QuoteSide, n: u32) -> Result<(), MarketFault>
+    pub(crate) fn take(&mut self, side: QuoteSide, n: u32) -> Result<(), MarketFault>
         ensures answer { λ r. ⌜ r ≡ takeAnswer (seriesLevels (now (self .entry)) side) n ⌝ }
         ensures after { λ _. ⌜ seriesLevels (now (self .exit)) ≡ oneSide (seriesLevels (now (self .entry))) side (taken (seriesLevels (now (self .entry)) side) n) ⌝ }
     {
@@ -43,7 +43,12 @@ impl SeriesDepth {
     }
 
     // Sets the size at a price of a side; with size 0, the price leaves.
-    pub fn level(&mut self, side: QuoteSide, price: u16, size: u32) -> Result<(), MarketFault>
+    pub(crate) fn level(
+        &mut self,
+        side: QuoteSide,
+        price: u16,
+        size: u32,
+    ) -> Result<(), MarketFault>
         requires price { ⌜ (1 ≤ price) × (price ≤ 65534) ⌝ }
         requires size { ⌜ size ≤ 1000000 ⌝ }
         ensures answer { λ r. ⌜ r ≡ setAnswer side price size (seriesLevels (now (self .entry)) side) (seriesLevels (now (self .entry)) (opposite side)) ⌝ }
