@@ -1,0 +1,2 @@
+// Growing lists over memory that a caller lends.
+pub mod list;
