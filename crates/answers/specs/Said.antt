@@ -12,10 +12,11 @@ use Rattle.lines.specs.declared.fault.LineFault.{LineFault}
 use Rattle.line_writer.specs.Lines.{render}
 use Rattle.answers.specs.declared.answer.Answer.{Answer}
 use Rattle.answers.specs.declared.answer.Answer.the-variants.{Series, Notice, Quote, Level, Order, Phase, Cancel, Work, Sweep, Net, Refused}
-use Rattle.answers.specs.declared.words.Layer.the-variants as layers
+use Rattle.orders.specs.declared.fault.Layer.the-variants as layers
 use Rattle.strategy.specs.Forms.{className}
 use Rattle.orders.specs.Words.{bellName}
-use Rattle.answers.specs.Words.{layerName, outcomeName}
+use Rattle.orders.specs.Faults.{layerName}
+use Rattle.answers.specs.Words.{outcomeName}
 
 -- a price, or none
 abbrev pub side : Option ℤ → Atom

@@ -1,7 +1,7 @@
 // The answers, one for each kind of line, and the refusals.
-use crate::words::Layer;
 use crate::words::Outcome;
 use orders::bell::Bell;
+use orders::fault::Layer;
 use strategy::class::Class;
 
 #[derive(Clone, Copy)]

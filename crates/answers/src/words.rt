@@ -1,23 +1,14 @@
-// The words that stand in answers.
+// How a sweep ends, as a word.
 ghost use mathlib.Core.Path.{_≡_};
 ghost use Prim.Native.Nat.{_≤_};
 ghost use lib.ListN.{length};
-ghost use Rattle.answers.specs.Words.{layerName, outcomeName};
+ghost use Rattle.answers.specs.Words.{outcomeName};
 
 // How a sweep ended: with no order left to fill, or with a full tape.
 #[derive(Clone, Copy)]
 pub enum Outcome {
     Done,
     Full,
-}
-
-// Which layer refuses.
-#[derive(Clone, Copy)]
-pub enum Layer {
-    Line,
-    Order,
-    Market,
-    Gate,
 }
 
 impl Outcome {
@@ -28,20 +19,6 @@ impl Outcome {
         match self {
             Outcome::Done => "done",
             Outcome::Full => "full",
-        }
-    }
-}
-
-impl Layer {
-    pub fn word(self) -> &'static str
-        ensures text { λ r. ⌜ now r ≡ layerName self ⌝ }
-        ensures short { λ r. ⌜ length (now r) ≤ 9 ⌝ }
-    {
-        match self {
-            Layer::Line => "line",
-            Layer::Order => "order",
-            Layer::Market => "market",
-            Layer::Gate => "gate",
         }
     }
 }

@@ -1,1 +1,5 @@
 pub mod LegLists
+pub mod LegChecks
+pub mod Soundness
+pub mod Arrays
+pub mod Verdicts

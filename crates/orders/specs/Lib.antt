@@ -1,2 +1,11 @@
 pub mod Words
 pub mod LegLists
+pub mod Faults
+pub mod SoundLegs
+pub mod Checks
+pub mod Ranges
+pub mod Orders
+pub mod Entered
+pub mod Phases
+pub mod Quantities
+pub mod TurnedTerms

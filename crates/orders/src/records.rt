@@ -1,11 +1,18 @@
 // Records with raw numbers, whose ranges are not checked yet.
 ghost use mathlib.Core.List.{List, [], _∷_, _++_};
 ghost use mathlib.Core.Path.{_≡_};
+ghost use Rattle.std.specs.declared.result.Result.the-variants.{Ok};
+ghost use Rattle.strategy.specs.Few.{listed};
+ghost use Rattle.orders.specs.declared.fault.OrderFault.the-variants.{LegCount};
 ghost use Rattle.orders.specs.declared.records.LegTerms.{LegTerms};
+ghost use Rattle.orders.specs.Checks.{check, mapOk};
 ghost use Rattle.orders.specs.LegLists.{abridged};
+ghost use Rattle.orders.specs.Orders.{legsOf, twoToFour};
+use crate::fault::OrderFault;
 use market::quote::QuoteSide;
 use strategy::leg::Kind;
 use strategy::leg::Side;
+use strategy::legs::Legs;
 
 #[derive(Clone, Copy)]
 pub struct SeriesTerms {
@@ -102,5 +109,18 @@ impl LegList {
             self.first[at] = leg;
         }
         self.count = self.count.saturating_add(1);
+    }
+
+    // The legs of a list that has two to four.
+    pub(crate) fn two_to_four(self) -> Result<Legs<LegTerms>, OrderFault>
+        ensures { λ r. ⌜ mapOk listed r ≡ check (twoToFour (self .count)) LegCount (Ok (legsOf self)) ⌝ }
+    {
+        let [a, b, c, d] = self.first;
+        match self.count {
+            2 => Ok(Legs::Two([a, b])),
+            3 => Ok(Legs::Three([a, b, c])),
+            4 => Ok(Legs::Four([a, b, c, d])),
+            _ => Err(OrderFault::LegCount),
+        }
     }
 }

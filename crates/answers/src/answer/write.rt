@@ -10,10 +10,10 @@ ghost use Rattle.line_writer.specs.Areas.{Written, TooSmall};
 ghost use Rattle.line_writer.specs.Lines.{held, atom, render};
 ghost use Rattle.answers.specs.Said.{refusal, said, side, Short};
 use super::Answer;
-use crate::words::Layer;
 use line_writer::line::Field;
 use line_writer::line::Line;
 use lines::fault::LineFault;
+use orders::fault::Layer;
 
 fn one(head: &str, a: Field) -> Line
     requires head { ⌜ length (now head) ≤ 9 ⌝ }

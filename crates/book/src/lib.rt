@@ -1,0 +1,4 @@
+// The book of resting orders.
+pub mod book;
+pub mod fault;
+pub mod order;

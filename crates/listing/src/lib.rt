@@ -1,0 +1,2 @@
+// The table of listed series.
+pub mod table;

@@ -1,0 +1,16 @@
+use mathlib.Core.Path.{sym, _∙_}
+use borrow.Author.Needs.{needs}
+use mir.Syntax.{w32}
+use mir.Val.{SFits}
+use Rattle.std.proofs.shelf.Results.{err-from-errBy}
+use Rattle.std.proofs.shelf.Signed.{toZ-ofZ}
+use Rattle.strategy.specs.Few.{listed}
+use Rattle.orders.proofs.Verdicts.{stops-legs}
+use Rattle.orders.proofs.records.OrderTerms.checked.Needs as need
+
+pub returns-in-Break-order-legs : need.returns-in-Break-order-legs
+returns-in-Break-order-legs c =
+    let p = err-from-errBy (c .from-residual-in-Break-order-legs .result) (c .from-residual-in-Break-order-legs .ensures .1) in
+    let fits : SFits w32 (c .args .self .quantity) = search needs in
+    let quantity = simp toZ-ofZ at (c .in-Continue-quantity .ensures tt) in
+    rw (p .1, p .2) (stops-legs (c .args .self) (listed (c .in-Continue-legs .legs)) _ _ (c .in-Continue-legs .ensures tt) (sym (c .limit-in-range .ensures) ∙ c .if-not-limit-in-range .left) quantity (c .in-Break-order-legs .ensures tt))
