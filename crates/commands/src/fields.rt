@@ -10,14 +10,14 @@ use crate::words::Keyword;
 use lines::cursor::Cursor;
 use lines::cursor::Token;
 
-pub fn next_token<'a>(from: &mut Cursor<'a>) -> Option<Token<'a>>
+pub(crate) fn next_token<'a>(from: &mut Cursor<'a>) -> Option<Token<'a>>
     ensures { λ r. ⌜ Cases r (rest (now (from .entry)) ≡ []) (λ t. rest (now (from .entry)) ≡ tokenPart t ∷ rest (now (from .exit))) ⌝ }
 {
     from.next()
 }
 
 // Makes sure that nothing is left.
-pub fn finish(from: &mut Cursor) -> Option<()>
+pub(crate) fn finish(from: &mut Cursor) -> Option<()>
     ensures { λ r. ⌜ Cases r (rest (now (from .entry)) ≡ [] → ⊥) (λ _. rest (now (from .entry)) ≡ []) ⌝ }
 {
     match next_token(from) {
@@ -26,7 +26,7 @@ pub fn finish(from: &mut Cursor) -> Option<()>
     }
 }
 
-pub fn next_number(from: &mut Cursor) -> Option<i32>
+pub(crate) fn next_number(from: &mut Cursor) -> Option<i32>
     ensures { λ r. ⌜ Cases r ((z : ℤ) (more : List Part) → rest (now (from .entry)) ≡ number z ∷ more → ⊥) (λ n. rest (now (from .entry)) ≡ number n ∷ rest (now (from .exit))) ⌝ }
 {
     match next_token(from)? {
@@ -44,13 +44,13 @@ fn next_word<'a>(from: &mut Cursor<'a>) -> Option<&'a str>
     }
 }
 
-pub fn next_keyword<K: Keyword>(from: &mut Cursor) -> Option<K>
+pub(crate) fn next_keyword<K: Keyword>(from: &mut Cursor) -> Option<K>
     ensures { λ r. ⌜ Cases r ((k : K) (more : List Part) → rest (now (from .entry)) ≡ word (K·Keyword .name k) ∷ more → ⊥) (λ k. rest (now (from .entry)) ≡ word (K·Keyword .name k) ∷ rest (now (from .exit))) ⌝ }
 {
     K::from_text(next_word(from)?)
 }
 
-pub fn next_open(from: &mut Cursor) -> Option<()>
+pub(crate) fn next_open(from: &mut Cursor) -> Option<()>
     ensures { λ r. ⌜ Cases r ((more : List Part) → rest (now (from .entry)) ≡ opens ∷ more → ⊥) (λ _. rest (now (from .entry)) ≡ opens ∷ rest (now (from .exit))) ⌝ }
 {
     match next_token(from)? {
@@ -59,7 +59,7 @@ pub fn next_open(from: &mut Cursor) -> Option<()>
     }
 }
 
-pub fn next_close(from: &mut Cursor) -> Option<()>
+pub(crate) fn next_close(from: &mut Cursor) -> Option<()>
     ensures { λ r. ⌜ Cases r ((more : List Part) → rest (now (from .entry)) ≡ closes ∷ more → ⊥) (λ _. rest (now (from .entry)) ≡ closes ∷ rest (now (from .exit))) ⌝ }
 {
     match next_token(from)? {
@@ -69,7 +69,7 @@ pub fn next_close(from: &mut Cursor) -> Option<()>
 }
 
 // Whether nothing is left.
-pub fn is_done(from: &Cursor) -> bool
+pub(crate) fn is_done(from: &Cursor) -> bool
     ensures { λ r. ⌜ When r (rest (now (from .entry)) ≡ []) (rest (now (from .entry)) ≡ [] → ⊥) ⌝ }
 {
     let mut ahead = *from;

@@ -162,7 +162,7 @@ fn read_number(from: &mut Cursor) -> Option<i32>
 }
 
 // The command, or `None` where the parts say none.
-pub fn read_command(from: &mut Cursor) -> Option<Command>
+pub(crate) fn read_command(from: &mut Cursor) -> Option<Command>
     ensures { λ r. ⌜ Means (rest (now (from .entry))) r ⌝ }
 {
     match next_keyword::<Head>(from)? {

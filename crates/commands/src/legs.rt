@@ -32,7 +32,7 @@ fn next_leg(from: &mut Cursor) -> Option<LegTerms>
 }
 
 // The legs up to the end of the line.
-pub fn read_legs(from: &mut Cursor) -> Option<LegList>
+pub(crate) fn read_legs(from: &mut Cursor) -> Option<LegList>
     ensures { λ r. ⌜ Cases r ((all : List LegTerms) → rest (now (from .entry)) ≡ legsParts all → ⊥) (λ l. LegsRead l (rest (now (from .entry)))) ⌝ }
 {
     let mut legs = LegList::new();

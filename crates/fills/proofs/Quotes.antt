@@ -1,29 +1,30 @@
 -- What a quotation says.
 use mathlib.Core.Path.{_≡_, refl, sym, ap, subst, _∙_}
 use mathlib.Core.Bool.{Bool, true, false}
-use mathlib.Core.List.{List}
-use Prim.Native.Nat.{ℕ, _<_}
+use mathlib.Core.List.{List, map}
+use Prim.Native.Nat.{ℕ}
 use native.Mathlib.Omega.{arith}
 use lib.IntN.{ℤ, pos}
 use Rattle.std.specs.declared.option.Option.{Option}
 use Rattle.std.specs.declared.option.Option.the-variants.{Some, None}
 use Rattle.std.specs.declared.result.Result.{Result}
 use Rattle.std.specs.declared.result.Result.the-variants.{Ok, Err}
-use Rattle.std.specs.Options.{valueOr}
+use Rattle.std.specs.Options.{isSome, valueOr}
 use Rattle.std.specs.Vec.{made}
 use Rattle.std.proofs.shelf.Tests.{and-parts}
 use Rattle.std.proofs.shelf.Signed.{ints}
-use Rattle.strategy.specs.declared.leg.Side.{Side}
-use Rattle.strategy.specs.declared.leg.Side.the-variants.{Buy, Sell}
+use Rattle.strategy.specs.declared.leg.Side.the-variants.{Buy}
 use Rattle.strategy.specs.declared.leg.Leg.{Leg}
+use Rattle.strategy.specs.declared.legs.Legs.{Legs}
+use Rattle.strategy.specs.declared.legs.Legs.the-variants.{Two, Three, Four}
 use Rattle.strategy.specs.declared.class.Class.{Class}
 use Rattle.strategy.specs.declared.class.Class.the-variants.{Bought, Vertical, Calendar, Butterfly, BoxSpread, Other}
 use Rattle.strategy.specs.declared.price.Buffer.{Buffer}
 use Rattle.strategy.specs.declared.price.Buffers.{Buffers}
+use Rattle.strategy.specs.Few.{listed}
 use Rattle.strategy.specs.Forms.{Long}
 use Rattle.strategy.specs.Prices.{below, above, lowest, highest, lowerEnd, preventedOf, Exactly, ForBanded, OutOfBand}
 use Rattle.strategy.proofs.Laws.{prevention-law}
-use Rattle.market.specs.declared.quote.QuoteSide.{QuoteSide}
 use Rattle.market.specs.Levels.{Levels}
 use Rattle.market.specs.Net.{netSide}
 use Rattle.market.specs.Takes.{distinct}
@@ -32,9 +33,9 @@ use Rattle.orders.specs.declared.fault.GateFault.the-variants.{NoMarket, Limit,
 use Rattle.orders.specs.declared.turned.TurnedOrder.{TurnedOrder}
 use Rattle.orders.specs.SoundLegs.{ratiosInRange}
 use Rattle.fills.specs.declared.fill.Fill.{Fill}
-use Rattle.fills.specs.Fills.{takenSide, lacking, pastLimit, prevented, orderLegs, fillAt, unless, inMarket, netPrice, quotedAt, quoted}
-use Rattle.fills.specs.FillLaws.{Available, Reaches, FillLaw, LowBuyFills}
-use Rattle.fills.proofs.Units.{units-within, units-some, units-shown}
+use Rattle.fills.specs.Fills.{takenSide, lacking, allowed, legFill, eachLeg, pastLimit, prevented, orderLegs, fillAt, unless, inMarket, netPrice, quotedAt, quoted}
+use Rattle.fills.specs.FillLaws.{Filled, Reaches, FillLaw, LowBuyFills}
+use Rattle.fills.proofs.Units.{units-within, units-some, units-shown, net-there, can-take}
 
 abbrev Answer : Type 0
 Answer = Result Fill GateFault
@@ -48,9 +49,18 @@ in-ok : (p : Option ℕ) (next : Answer) (f : Fill) → inMarket p next ≡ Ok f
 in-ok None next f e = (refl, e)
 in-ok (Some k) next f e = absurd (err-ok (NoMarket k) f e)
 
-unless-ok : (t : Bool) (fault : GateFault) (next : Answer) (f : Fill) → unless t fault next ≡ Ok f → next ≡ Ok f
+unless-ok : (t : Bool) (fault : GateFault) (next : Answer) (f : Fill) → unless t fault next ≡ Ok f → (t ≡ false) × (next ≡ Ok f)
 unless-ok true fault next f e = absurd (err-ok fault f e)
-unless-ok false fault next f e = e
+unless-ok false fault next f e = (refl, e)
+
+some-is : (x : Option ℤ) → isSome x ≡ true → x ≡ Some (valueOr x (pos 0))
+some-is None e = let z : _≡_ {A = ℕ} 0 1 = cc in absurd (omega arith)
+some-is (Some net) e = refl
+
+listed-each : {A B : Type 0} (f : A → B) (legs : Legs A) → listed (eachLeg f legs) ≡ map f (listed legs)
+listed-each f (Two legs) = refl
+listed-each f (Three legs) = refl
+listed-each f (Four legs) = refl
 
 same-ok : (f g : Fill) → _≡_ {A = Answer} (Ok f) (Ok g) → f ≡ g
 same-ok f g e = cc
@@ -59,24 +69,33 @@ module _ (b : Levels) (o : TurnedOrder) (remaining : ℕ) (buffers : Buffers) wh
   abbrev last : ℤ → Answer
   last net = unless (prevented o net buffers) Prevented (Ok (fillAt b o remaining net))
 
-  fill-available : (net : ℤ) → lacking b (takenSide (o .side)) (orderLegs o) ≡ None → Available b o remaining (fillAt b o remaining net)
-  fill-available net e = record {
-    within = units-within b (takenSide (o .side)) remaining (orderLegs o);
-    some = λ h. units-some b (takenSide (o .side)) 1 remaining (orderLegs o) h (and-parts (ratiosInRange (orderLegs o)) (distinct (orderLegs o)) (o .legs .sound) .0) e;
-    shown = units-shown b (takenSide (o .side)) (fillAt b o remaining net .units) remaining (orderLegs o) (omega arith);
-  }
+  fill-is : lacking b (takenSide (o .side)) (orderLegs o) ≡ None → pastLimit (o .side) (netPrice b o) (o .limit) ≡ false → Filled b o remaining (fillAt b o remaining (netPrice b o))
+  fill-is e inside =
+      let q = takenSide (o .side) in
+      let ratios = and-parts (ratiosInRange (orderLegs o)) (distinct (orderLegs o)) (o .legs .sound) .0 in
+      let units = allowed b q remaining (orderLegs o) in
+      let shown = units-shown b q units remaining (orderLegs o) (omega arith) in
+      record {
+        within = units-within b q remaining (orderLegs o);
+        some = λ h. units-some b q 1 remaining (orderLegs o) h ratios e;
+        shown = shown;
+        takeable = can-take b q units (orderLegs o) (o .legs .sound) shown;
+        price = some-is (netSide b (orderLegs o) q) (net-there b q 1 (orderLegs o) ratios e);
+        inside = inside;
+        legs = listed-each (legFill b q) (o .legs .legs);
+      }
 
-  ok-available : (f : Fill) → quoted b o remaining buffers ≡ Ok f → Available b o remaining f
-  ok-available f e =
+  ok-filled : (f : Fill) → quoted b o remaining buffers ≡ Ok f → Filled b o remaining f
+  ok-filled f e =
       let net = netPrice b o in
       let m = in-ok (lacking b (takenSide (o .side)) (orderLegs o)) (quotedAt b o remaining buffers net) f e in
       let l = unless-ok (pastLimit (o .side) net (o .limit)) Limit (last net) f (m .1) in
-      let v = unless-ok (prevented o net buffers) Prevented (Ok (fillAt b o remaining net)) f l in
-      subst (Available b o remaining) (same-ok (fillAt b o remaining net) f v) (fill-available net (m .0))
+      let v = unless-ok (prevented o net buffers) Prevented (Ok (fillAt b o remaining net)) f (l .1) in
+      subst (Filled b o remaining) (same-ok (fillAt b o remaining net) f (v .1)) (fill-is (m .0) (l .0))
 
-  pub available : (r : Answer) → r ≡ quoted b o remaining buffers → made r (Available b o remaining)
-  available (Ok f) e = ok-available f (sym e)
-  available (Err x) e = tt
+  pub filled : (r : Answer) → r ≡ quoted b o remaining buffers → made r (Filled b o remaining)
+  filled (Ok f) e = ok-filled f (sym e)
+  filled (Err x) e = tt
 
   -- Prevention
 

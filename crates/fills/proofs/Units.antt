@@ -23,7 +23,7 @@ use Rattle.market.specs.declared.quote.Level.{Level}
 use Rattle.market.specs.declared.leg.TradedLeg.{TradedLeg}
 use Rattle.market.specs.Levels.{Levels, bestOf, canTake}
 use Rattle.market.specs.Net.{usedSide, partOf, plus, netSide, netMarket}
-use Rattle.market.specs.Takes.{legReady, allReady, distinct, canTakeLegs, legTaken, legsTaken}
+use Rattle.market.specs.Takes.{legReady, allReady, distinct, canTakeLegs, legsTaken}
 use Rattle.market.proofs.Replaced.{refused-same}
 use Rattle.orders.specs.SoundLegs.{ratiosInRange, sound}
 use Rattle.fills.specs.Fills.{levelOf, usedLevel, lackingFrom, lacking, allowed}
@@ -90,9 +90,11 @@ side-net : (b : Levels) (gs : List TradedLeg) (q : QuoteSide) → sideOf (netMar
 side-net b gs Bid = refl
 side-net b gs Offer = refl
 
-pub priced : (b : Levels) (gs : List TradedLeg) (q : QuoteSide) (net : Option ℤ) (both : TwoSided ℤ) → net ≡ sideOf both q → both ≡ netMarket b gs → sound gs ≡ true → lacking b q gs ≡ None → isSome net ≡ true
-priced b gs q net both en eb s e =
-    ap isSome (en ∙ ap (λ m. sideOf m q) eb ∙ side-net b gs q) ∙ net-there b q 1 gs (and-parts (ratiosInRange gs) (distinct gs) s .0) e
+-- a net price, from the legs of an order and a search that finds none lacking
+pub priced : (b : Levels) (q : QuoteSide) (legs given : Legs TradedLeg) (gs : List TradedLeg) (lack : Option ℕ) (net : Option ℤ) (both : TwoSided ℤ) → sound (listed legs) ≡ true → given ≡ legs → gs ≡ listed given → lack ≡ lacking b q gs → lack ≡ None → both ≡ netMarket b (listed given) → net ≡ sideOf both q → isSome net ≡ true
+priced b q legs given gs lack net both s eg es el none eb en =
+    ap isSome (en ∙ ap (λ m. sideOf m q) eb ∙ side-net b (listed given) q)
+    ∙ net-there b q 1 (listed given) (and-parts (ratiosInRange (listed given)) (distinct (listed given)) (ap (λ l. sound (listed l)) eg ∙ s) .0) (ap (lacking b q) (sym es) ∙ sym el ∙ none)
 
 -- no units take nothing
 none-taken : (b : Levels) (q : QuoteSide) (gs : List TradedLeg) → legsTaken b q 0 gs ≡ b
@@ -106,11 +108,14 @@ same-cond true x y e = refl
 same-cond false x y e = sym e
 
 -- the takes of a fill are not refused
+pub can-take : (b : Levels) (q : QuoteSide) (u : ℕ) (gs : List TradedLeg) → sound gs ≡ true → All (λ g. g .ratio * u ≤ usedLevel b q g .size) gs → 0 < u → canTakeLegs b q u gs ≡ true
+can-take b q u gs e k h =
+    let p = and-parts (ratiosInRange gs) (distinct gs) e in
+    and-from (distinct gs) (allReady b q u gs) (p .1) (all-ready b q u gs h (p .0) k)
+
 takes-made : (b : Levels) (q : QuoteSide) (u : ℕ) (gs : List TradedLeg) → sound gs ≡ true → All (λ g. g .ratio * u ≤ usedLevel b q g .size) gs → cond (canTakeLegs b q u gs) (legsTaken b q u gs) b ≡ legsTaken b q u gs
 takes-made b q zero gs e k = same-cond (canTakeLegs b q 0 gs) (legsTaken b q 0 gs) b (none-taken b q gs)
-takes-made b q (suc u) gs e k =
-    let p = and-parts (ratiosInRange gs) (distinct gs) e in
-    cond-true (canTakeLegs b q (suc u) gs) (legsTaken b q (suc u) gs) b (and-from (distinct gs) (allReady b q (suc u) gs) (p .1) (all-ready b q (suc u) gs (omega arith) (p .0) k))
+takes-made b q (suc u) gs e k = cond-true (canTakeLegs b q (suc u) gs) (legsTaken b q (suc u) gs) b (can-take b q (suc u) gs e k (omega arith))
 
 -- the levels a after the takes of the legs, by a side s and legs that are those of the order
 pub after-takes : (b a : Levels) (q s : QuoteSide) (u : ℕ) (legs given : Legs TradedLeg) → sound (listed legs) ≡ true → All (λ g. g .ratio * u ≤ usedLevel b q g .size) (listed legs) → s ≡ q → given ≡ legs → a ≡ cond (canTakeLegs b s u (listed given)) (legsTaken b s u (listed given)) b → a ≡ legsTaken b q u (listed legs)

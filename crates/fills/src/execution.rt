@@ -4,7 +4,7 @@ ghost use mathlib.Core.Path.{_≡_};
 ghost use Rattle.std.specs.Vec.{made};
 ghost use Rattle.strategy.specs.declared.leg.Leg.{Leg};
 ghost use Rattle.strategy.specs.Forms.{Long};
-ghost use Rattle.fills.specs.FillLaws.{Available, FillLaw, LowBuyFills};
+ghost use Rattle.fills.specs.FillLaws.{Filled, FillLaw, LowBuyFills};
 ghost use Rattle.fills.specs.Fills.{quoted, executed};
 use crate::fill::Fill;
 use crate::quotation::quotation;
@@ -15,7 +15,8 @@ use orders::fault::GateFault;
 use orders::turned::TurnedOrder;
 use strategy::price::Buffers;
 
-// Makes the fill that the quotation says: takes ratio times units of every leg, or nothing where the order is refused or no unit remains.
+// Makes the fill that the quotation says: takes ratio times units of every leg, and nothing where
+// the order is refused or no unit of it remains.
 pub fn execute<M: Market>(
     market: &mut M,
     order: &TurnedOrder,
@@ -23,7 +24,7 @@ pub fn execute<M: Market>(
     buffers: Buffers,
 ) -> Result<Fill, GateFault>
     ensures answer { λ r. ⌜ r ≡ quoted (levels (now (market .entry))) (now (order .entry)) remaining buffers ⌝ }
-    ensures there { λ r. ⌜ made r (Available (levels (now (market .entry))) (now (order .entry)) remaining) ⌝ }
+    ensures fill { λ r. ⌜ made r (Filled (levels (now (market .entry))) (now (order .entry)) remaining) ⌝ }
     ensures law { λ r. ⌜ ((turned : List Leg) → Long (now (order .entry) .class) (now (order .entry) .width) turned → FillLaw (levels (now (market .entry))) (now (order .entry)) remaining turned buffers r) ⌝ }
     ensures low { λ r. ⌜ LowBuyFills (levels (now (market .entry))) (now (order .entry)) remaining buffers r ⌝ }
     ensures after { λ r. ⌜ levels (now (market .exit)) ≡ executed (levels (now (market .entry))) (now (order .entry)) r ⌝ }

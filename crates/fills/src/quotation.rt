@@ -9,9 +9,8 @@ ghost use Rattle.strategy.specs.declared.leg.Leg.{Leg};
 ghost use Rattle.strategy.specs.Few.{listed};
 ghost use Rattle.strategy.specs.Forms.{Long};
 ghost use Rattle.strategy.specs.Payoff.{signed};
-ghost use Rattle.market.specs.Net.{netSide};
 ghost use Rattle.orders.specs.SoundLegs.{ratiosInRange};
-ghost use Rattle.fills.specs.FillLaws.{Available, FillLaw, LowBuyFills};
+ghost use Rattle.fills.specs.FillLaws.{Filled, FillLaw, LowBuyFills};
 ghost use Rattle.fills.specs.Fills.{takenSide, usedLevel, lacking, allowed, legFill, eachLeg, pastLimit, prevented, fillAt, quoted};
 use crate::fill::Fill;
 use crate::fill::LegFill;
@@ -173,7 +172,7 @@ pub fn quotation<M: Market>(
     buffers: Buffers,
 ) -> Result<Fill, GateFault>
     ensures answer { λ r. ⌜ r ≡ quoted (levels (now (market .entry))) (now (order .entry)) remaining buffers ⌝ }
-    ensures there { λ r. ⌜ made r (Available (levels (now (market .entry))) (now (order .entry)) remaining) ⌝ }
+    ensures fill { λ r. ⌜ made r (Filled (levels (now (market .entry))) (now (order .entry)) remaining) ⌝ }
     ensures law { λ r. ⌜ ((turned : List Leg) → Long (now (order .entry) .class) (now (order .entry) .width) turned → FillLaw (levels (now (market .entry))) (now (order .entry)) remaining turned buffers r) ⌝ }
     ensures low { λ r. ⌜ LowBuyFills (levels (now (market .entry))) (now (order .entry)) remaining buffers r ⌝ }
 {

@@ -1,8 +1,8 @@
 -- Loops that look for the first of a kind.
 use Prim.Native.Nat.{ℕ, _+_, _≤_, _<_}
 use native.Mathlib.Omega.{arith}
-use lib.Dec.{leb, eqb}
-use mathlib.Core.Bool.{Bool, true, false, not, cond, _||_}
+use lib.Dec.{ltb, eqb}
+use mathlib.Core.Bool.{Bool, true, false, cond, _||_}
 use mathlib.Core.List.{List}
 use mathlib.Core.Path.{_≡_, sym, ap, _∙_}
 use lib.ListN.{length, take, drop, getD}
@@ -15,7 +15,7 @@ use Rattle.std.specs.declared.option.Option.{Option}
 use Rattle.std.specs.declared.option.Option.the-variants.{Some, None}
 use Rattle.market.specs.declared.leg.TradedLeg.{TradedLeg}
 use Rattle.listing.specs.Listing.{sameSeries, isListed}
-use Rattle.listing.specs.Resolving.{firstBad}
+use Rattle.orders.specs.Checks.{firstBad}
 
 module _ (x : Series) (xs : List Series) (i : ℕ) (inv : isListed x (drop i xs) ≡ isListed x xs) where
   step : (d : Series) → i < length xs → isListed x xs ≡ (sameSeries (getD xs i d) x || isListed x (drop (i + 1) xs))
@@ -30,18 +30,18 @@ module _ (x : Series) (xs : List Series) (i : ℕ) (inv : isListed x (drop i xs)
   pub listed-all : length xs ≤ i → false ≡ isListed x xs
   listed-all h = sym (at-drop-all (isListed x) xs i h) ∙ inv
 
-module _ (bad : TradedLeg → Bool) (gs : List TradedLeg) (i : ℕ) (inv : firstBad bad (i + 1) (drop i gs) ≡ firstBad bad 1 gs) where
-  turn : (d : TradedLeg) → i < length gs → firstBad bad 1 gs ≡ cond (bad (getD gs i d)) (Some (i + 1)) (firstBad bad (i + 1 + 1) (drop (i + 1) gs))
-  turn d h = sym inv ∙ at-drop-more (firstBad bad (i + 1)) gs i d h
+module _ (good : TradedLeg → Bool) (gs : List TradedLeg) (i : ℕ) (inv : firstBad good (i + 1) (drop i gs) ≡ firstBad good 1 gs) where
+  turn : (d : TradedLeg) → i < length gs → firstBad good 1 gs ≡ cond (good (getD gs i d)) (firstBad good (i + 1 + 1) (drop (i + 1) gs)) (Some (i + 1))
+  turn d h = sym inv ∙ at-drop-more (firstBad good (i + 1)) gs i d h
 
-  pub bad-stop : (d : TradedLeg) → i < length gs → bad (getD gs i d) ≡ true → Some (i + 1) ≡ firstBad bad 1 gs
-  bad-stop d h e = sym (turn d h ∙ ap (λ b. cond b (Some (i + 1)) (firstBad bad (i + 1 + 1) (drop (i + 1) gs))) e)
+  pub bad-stop : (d : TradedLeg) → i < length gs → good (getD gs i d) ≡ false → Some (i + 1) ≡ firstBad good 1 gs
+  bad-stop d h e = sym (turn d h ∙ ap (λ b. cond b (firstBad good (i + 1 + 1) (drop (i + 1) gs)) (Some (i + 1))) e)
 
-  pub bad-more : (d : TradedLeg) → i < length gs → bad (getD gs i d) ≡ false → firstBad bad (i + 1 + 1) (drop (i + 1) gs) ≡ firstBad bad 1 gs
-  bad-more d h e = sym (turn d h ∙ ap (λ b. cond b (Some (i + 1)) (firstBad bad (i + 1 + 1) (drop (i + 1) gs))) e)
+  pub bad-more : (d : TradedLeg) → i < length gs → good (getD gs i d) ≡ true → firstBad good (i + 1 + 1) (drop (i + 1) gs) ≡ firstBad good 1 gs
+  bad-more d h e = sym (turn d h ∙ ap (λ b. cond b (firstBad good (i + 1 + 1) (drop (i + 1) gs)) (Some (i + 1))) e)
 
-  pub bad-all : length gs ≤ i → None ≡ firstBad bad 1 gs
-  bad-all h = sym (at-drop-all (firstBad bad (i + 1)) gs i h) ∙ inv
+  pub bad-all : length gs ≤ i → None ≡ firstBad good 1 gs
+  bad-all h = sym (at-drop-all (firstBad good (i + 1)) gs i h) ∙ inv
 
 -- the leg that a read past the end of a list has
 abbrev pub noLeg : TradedLeg
@@ -51,14 +51,14 @@ module _ (series : List Series) (count : ℕ) (size : length series ≡ 256) (fe
   used : length (take count series) ≡ count
   used = length-take-le count series (omega arith)
 
-  pub past-last : (k n : ℕ) → k ≡ n → count ≤ k → leb (length (take count series)) n ≡ true
+  pub past-last : (k n : ℕ) → k ≡ n → count ≤ k → ltb n (length (take count series)) ≡ false
   past-last k n e h = rw used (grind (arith, tells))
 
-  pub within : (k n : ℕ) → k ≡ n → k < count → leb (length (take count series)) n ≡ false
+  pub within : (k n : ℕ) → k ≡ n → k < count → ltb n (length (take count series)) ≡ true
   within k n e h = rw used (grind (arith, tells))
 
-pub differs : (x y : Series) (u : ℕ) → x ≡ y → (x .underlying ≡ u → ⊥) → not (eqb (y .underlying) u) ≡ true
-differs x y u e ne = ap (λ (z : Series). not (eqb (z .underlying) u)) (sym e) ∙ ap not (ne-eqb (x .underlying) u ne)
+pub differs : (x y : Series) (u : ℕ) → x ≡ y → (x .underlying ≡ u → ⊥) → eqb (y .underlying) u ≡ false
+differs x y u e ne = ap (λ (z : Series). eqb (z .underlying) u) (sym e) ∙ ne-eqb (x .underlying) u ne
 
-pub agrees : (x y : Series) (u : ℕ) → x ≡ y → x .underlying ≡ u → not (eqb (y .underlying) u) ≡ false
-agrees x y u e is = ap (λ (z : Series). not (eqb (z .underlying) u)) (sym e) ∙ ap not (eq-eqb (x .underlying) u is)
+pub agrees : (x y : Series) (u : ℕ) → x ≡ y → x .underlying ≡ u → eqb (y .underlying) u ≡ true
+agrees x y u e is = ap (λ (z : Series). eqb (z .underlying) u) (sym e) ∙ eq-eqb (x .underlying) u is

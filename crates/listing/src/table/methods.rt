@@ -4,9 +4,10 @@ ghost use mathlib.Core.List.{[], map};
 ghost use mathlib.Core.Path.{_≡_};
 ghost use lib.ListN.{length};
 ghost use Rattle.strategy.specs.Few.{listed};
+ghost use Rattle.orders.specs.Checks.{mapOk};
 ghost use Rattle.listing.specs.Tables.{table};
 ghost use Rattle.listing.specs.Listing.{sameSeries, isListed, listingAnswer, listingAfter};
-ghost use Rattle.listing.specs.Resolving.{seriesOf, firstUnlisted, firstOther, optionLeg, resolving, resolvedAs};
+ghost use Rattle.listing.specs.Resolving.{seriesOf, firstUnlisted, firstOther, optionLeg, resolving};
 use super::ROOM;
 use super::SeriesTable;
 use market::leg::TradedLeg;
@@ -119,7 +120,7 @@ impl SeriesTable {
 
     // The legs as options of their series, in the order that they have.
     pub fn resolve(&self, legs: &Legs<TradedLeg>) -> Result<Legs<Leg>, GateFault>
-        ensures { λ r. ⌜ resolvedAs r ≡ resolving (table (now (self .entry))) (listed (now (legs .entry))) ⌝ }
+        ensures { λ r. ⌜ mapOk listed r ≡ resolving (table (now (self .entry))) (listed (now (legs .entry))) ⌝ }
     {
         let legs = legs.as_slice();
         if let Some(place) = self.first_unlisted(legs) {

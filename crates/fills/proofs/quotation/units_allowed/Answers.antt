@@ -1,5 +1,4 @@
 use native.Mathlib.Omega.{arith}
-use borrow.Author.Needs.{needs}
 use Rattle.fills.proofs.Steps.{units-more, units-all, ratio-some, ratio-more}
 use Rattle.fills.proofs.quotation.units_allowed.Needs as need
 

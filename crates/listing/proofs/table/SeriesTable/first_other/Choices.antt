@@ -1,11 +1,11 @@
 use Prim.Native.Nat.{_+_}
-use mathlib.Core.Bool.{not}
 use mathlib.Core.Path.{_≡_}
 use lib.Dec.{eqb}
 use lib.ListN.{drop}
 use Rattle.listing.specs.Tables.{table}
-use Rattle.listing.specs.Resolving.{firstBad, seriesOf}
+use Rattle.orders.specs.Checks.{firstBad}
+use Rattle.listing.specs.Resolving.{seriesOf}
 use Rattle.listing.proofs.table.SeriesTable.first_other.Given as given
 
 abbrev pub Inv-loop-i : given.InvT-loop-i
-Inv-loop-i l = firstBad (λ g. not (eqb (seriesOf (table (l .self)) g .underlying) (l .underlying))) (l .i + 1) (drop (l .i) (l .legs)) ≡ firstBad (λ g. not (eqb (seriesOf (table (l .self)) g .underlying) (l .underlying))) 1 (l .legs)
+Inv-loop-i l = firstBad (λ g. eqb (seriesOf (table (l .self)) g .underlying) (l .underlying)) (l .i + 1) (drop (l .i) (l .legs)) ≡ firstBad (λ g. eqb (seriesOf (table (l .self)) g .underlying) (l .underlying)) 1 (l .legs)
