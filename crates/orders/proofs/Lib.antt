@@ -3,3 +3,4 @@ pub mod LegChecks
 pub mod Soundness
 pub mod Arrays
 pub mod Verdicts
+pub mod Abridged

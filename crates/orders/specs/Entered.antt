@@ -3,6 +3,7 @@ use mathlib.Core.Bool.{_&&_}
 use mathlib.Core.List.{List}
 use Prim.Native.Nat.{ℕ}
 use lib.IntN.{ℤ}
+use lib.ListN.{length}
 use Rattle.std.specs.declared.option.Option.{Option}
 use Rattle.std.specs.declared.result.Result.{Result}
 use Rattle.strategy.specs.declared.leg.Side.{Side}
@@ -11,6 +12,7 @@ use Rattle.market.specs.declared.leg.TradedLeg.{TradedLeg}
 use Rattle.orders.specs.declared.fault.OrderFault.{OrderFault}
 use Rattle.orders.specs.declared.fault.OrderFault.the-variants.{LegCount, Range}
 use Rattle.orders.specs.declared.records.Channel.{Channel}
+use Rattle.orders.specs.declared.records.LegTerms.{LegTerms}
 use Rattle.orders.specs.declared.records.OrderTerms.{OrderTerms}
 use Rattle.orders.specs.declared.legs.OrderLegs.{OrderLegs}
 use Rattle.orders.specs.declared.quantity.Quantity.{Quantity}
@@ -46,3 +48,10 @@ checkedOrder o =
     check (twoToFour (o .legs .count)) LegCount (
     check (limitInRange (o .limit) && quantityInRange (o .quantity)) (Range 0) (
     mapOk (orderOf o) (legsChecked (legsOf (o .legs)))))
+
+-- the same over all legs, however many
+abbrev pub wholeOrder : OrderTerms → List LegTerms → Result Entered OrderFault
+wholeOrder o all =
+    check (twoToFour (length all)) LegCount (
+    check (limitInRange (o .limit) && quantityInRange (o .quantity)) (Range 0) (
+    mapOk (orderOf o) (legsChecked all)))

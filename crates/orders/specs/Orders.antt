@@ -3,7 +3,7 @@ use mathlib.Core.Bool.{Bool, not, cond, _&&_, _||_}
 use mathlib.Core.List.{List, [], _∷_, _++_, map}
 use Prim.Native.Nat.{ℕ, zero, suc, _+_, _*_, _%_}
 use lib.Dec.{eqb, leb, ltb}
-use lib.ListN.{take}
+use lib.ListN.{length, take}
 use Rattle.std.specs.declared.option.Option.{Option}
 use Rattle.std.specs.declared.option.Option.the-variants.{Some, None}
 use Rattle.std.specs.declared.result.Result.{Result}
@@ -66,3 +66,7 @@ legsChecked legs =
 
 abbrev pub checkedLegs : LegList → Result (List TradedLeg) OrderFault
 checkedLegs l = check (twoToFour (l .count)) LegCount (legsChecked (legsOf l))
+
+-- the same over all legs, however many
+abbrev pub wholeChecked : List LegTerms → Result (List TradedLeg) OrderFault
+wholeChecked all = check (twoToFour (length all)) LegCount (legsChecked all)

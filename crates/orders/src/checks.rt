@@ -1,13 +1,15 @@
 // The checks of an order and of its legs.
-ghost use mathlib.Core.List.{[], _∷_};
+ghost use mathlib.Core.List.{List, [], _∷_};
 ghost use mathlib.Core.Path.{_≡_};
 ghost use Rattle.strategy.specs.Few.{listed};
 ghost use Rattle.std.specs.declared.result.Result.the-variants.{Ok};
 ghost use Rattle.orders.specs.declared.fault.OrderFault.the-variants.{Range};
+ghost use Rattle.orders.specs.declared.records.LegTerms.{LegTerms};
 ghost use Rattle.orders.specs.Checks.{mapOk, check, amount};
+ghost use Rattle.orders.specs.LegLists.{abridged};
 ghost use Rattle.orders.specs.Ranges.{limitInRange, quantityInRange};
-ghost use Rattle.orders.specs.Orders.{legsInRange, legsChecked, checkedLegs};
-ghost use Rattle.orders.specs.Entered.{unitsOf, legsIn, enteredOrder, checkedOrder};
+ghost use Rattle.orders.specs.Orders.{legsInRange, legsChecked, checkedLegs, wholeChecked};
+ghost use Rattle.orders.specs.Entered.{unitsOf, legsIn, enteredOrder, checkedOrder, wholeOrder};
 use crate::conditions::reducible;
 use crate::conditions::repeated;
 use crate::conditions::uneven;
@@ -98,7 +100,8 @@ fn order_legs(legs: Legs<LegTerms>) -> Result<OrderLegs, OrderFault>
 impl LegList {
     // The legs of an order, or of a net market that is asked for.
     pub fn checked(self) -> Result<OrderLegs, OrderFault>
-        ensures { λ r. ⌜ mapOk legsIn r ≡ checkedLegs self ⌝ }
+        ensures answer { λ r. ⌜ mapOk legsIn r ≡ checkedLegs self ⌝ }
+        ensures whole { λ r. ⌜ ((all : List LegTerms) → self ≡ abridged all → mapOk legsIn r ≡ wholeChecked all) ⌝ }
     {
         order_legs(self.two_to_four()?)
     }
@@ -106,7 +109,8 @@ impl LegList {
 
 impl OrderTerms {
     pub fn checked(self) -> Result<CheckedOrder, OrderFault>
-        ensures { λ r. ⌜ mapOk enteredOrder r ≡ checkedOrder self ⌝ }
+        ensures answer { λ r. ⌜ mapOk enteredOrder r ≡ checkedOrder self ⌝ }
+        ensures whole { λ r. ⌜ ((all : List LegTerms) → self .legs ≡ abridged all → mapOk enteredOrder r ≡ wholeOrder self all) ⌝ }
     {
         let legs = self.legs.two_to_four()?;
         if !limit_in_range(self.limit) {
