@@ -109,9 +109,9 @@ orders_stay h s e k none quiet = leave_orders h s.last s.order s.tape k e s.orde
 
 still_core : (h : List Event) (s : State) (e : Event) → Still h e → Core h s → Core (e ∷ h) s
 still_core h s e q k = record {
-  series = nothing_more s.series (listed h) (listed_by e.call e.reply) k.series q.lists-none;
-  notices = nothing_more s.notices (posted h) (posted_by e.call e.reply) k.notices q.posts-none;
-  orders = orders_stay h s e k.orders q.accepts-none q.cancels-none;
+  series = nothing_more s.series (listed h) (listed_by e.call e.reply) k.series q.lists_none;
+  notices = nothing_more s.notices (posted h) (posted_by e.call e.reply) k.notices q.posts_none;
+  orders = orders_stay h s e k.orders q.accepts_none q.cancels_none;
   closed = k.closed;
   counted = k.counted;
   few = k.few;

@@ -53,7 +53,7 @@ classified_of (e ∷ h) n x (inr a) = classified_of h n x a
 pub prevents_law : (options : List Leg) (y : Strategy) (side : Side) (net : ℤ) (bs : Buffers) → Classified options y
     → PreventionLaw y.class y.width (turned_legs y.turned options) side net bs (prevented_of y.class y.width side net bs)
 prevents_law options y side net bs (inl v) = prevention_law y.class y.width (turned_legs y.turned options) side net bs v
-prevents_law options y side net bs (inr o) = no_band y.class o.class-is bs _
+prevents_law options y side net bs (inr o) = no_band y.class o.class_is bs _
 
 same_work : (z w : ℤ) → call.Work z ≡ call.Work w → z ≡ w
 same_work z w e = cc

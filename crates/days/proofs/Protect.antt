@@ -63,7 +63,7 @@ exact_trans P Q R a b = (λ q. b.0 (a.1 q), λ r. a.0 (b.1 r))
 law_of : (options : List Leg) (y : Strategy) (side : Side) (price : ℤ) (bs : Buffers) → Classified options y
     → LimitLaw y.class y.width (turned_legs y.turned options) price bs (limit_refusal y.class y.width options side price bs)
 law_of options y side price bs (inl v) = limit_law y.class y.width options (turned_legs y.turned options) side price bs v
-law_of options y side price bs (inr o) = no_band y.class o.class-is bs _
+law_of options y side price bs (inr o) = no_band y.class o.class_is bs _
 
 -- Numbers
 

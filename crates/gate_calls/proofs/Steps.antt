@@ -112,7 +112,7 @@ module _ (s : State) (m : Levels) (z : ℤ) where
   pub not_open : is_open s.phase ≡ false → WorkStep s m z (reply.Refused gate.Phase) (since s s) s m
   not_open e = work_refused s m z gate.Phase (ap (λ b. rest_check b (lookup s.order z)) e)
 
-  module _ (is_open : is_open s.phase ≡ true) where
+  module _ (is-open : is_open s.phase ≡ true) where
     at_order : (v : Option Resting) → v ≡ lookup s.order z → working s m z ≡ when_resting v room_check
     at_order v e = ap (λ b. rest_check b (lookup s.order z)) is_open ∙ ap (λ x. when_resting x room_check) (sym e)
 

@@ -15,22 +15,22 @@ two_strikes u Put low high e = refl
 module _ (w : ℕ) (legs : List Leg) where
   pub length-vertical : IsVertical w legs → length legs ≡ 2
   length-vertical v =
-      omega (arith, length_reordered legs (vertical v.u v.k v.low v.high v.e) v.legs-are, two_strikes v.u v.k v.low v.high v.e)
+      omega (arith, length_reordered legs (vertical v.u v.k v.low v.high v.e) v.legs_are, two_strikes v.u v.k v.low v.high v.e)
 
   pub length-calendar : IsCalendar w legs → length legs ≡ 2
-  length-calendar v = length_reordered legs (calendar v.u v.k v.strike v.near v.later) v.legs-are
+  length-calendar v = length_reordered legs (calendar v.u v.k v.strike v.near v.later) v.legs_are
 
   pub length-butterfly : IsButterfly w legs → length legs ≡ 3
-  length-butterfly v = length_reordered legs (butterfly v.u v.k v.low v.middle v.high v.e) v.legs-are
+  length-butterfly v = length_reordered legs (butterfly v.u v.k v.low v.middle v.high v.e) v.legs_are
 
   pub length-box : IsBox w legs → length legs ≡ 4
-  length-box v = length_reordered legs (box v.u v.low v.high v.e) v.legs-are
+  length-box v = length_reordered legs (box v.u v.low v.high v.e) v.legs_are
 
 flat_bought : (legs : List Leg) (w : ℕ) → IsBought w legs → IsBought 0 legs
 flat_bought legs w v = record { some = v.some; all = v.all; flat = refl }
 
 flat_calendar : (legs : List Leg) (w : ℕ) → IsCalendar w legs → IsCalendar 0 legs
-flat_calendar legs w v = record { u = v.u; k = v.k; strike = v.strike; near = v.near; later = v.later; apart = v.apart; flat = refl; legs_are = v.legs-are }
+flat_calendar legs w v = record { u = v.u; k = v.k; strike = v.strike; near = v.near; later = v.later; apart = v.apart; flat = refl; legs_are = v.legs_are }
 
 -- legs that are no long form
 pub record None_of (legs : List Leg) : Type 0 where

@@ -95,26 +95,26 @@ pub vertical_read : (a b : Leg) (w : ℕ) → IsVertical w (a ∷ b ∷ []) → 
 vertical_read a b w v low high is-low is-high =
     let legs : List Leg = a ∷ b ∷ [] in
     let form : List Leg = vertical v.u v.k v.low v.high v.e in
-    let each : All (Within v.u v.e v.low v.high) legs = all_from (Within v.u v.e v.low v.high) legs form v.legs-are (vertical_within v.u v.low v.high v.e v.k (omega arith)) in
-    let kinds : All (λ l. l.series.kind ≡ v.k) legs = all_from (λ l. l.series.kind ≡ v.k) legs form v.legs-are (vertical_kind v.u v.low v.high v.e v.k) in
-    let ends : Reached strike_of legs v.low v.high = reached_from strike_of legs form v.low v.high v.legs-are (vertical_reached v.u v.low v.high v.e v.k) in
+    let each : All (Within v.u v.e v.low v.high) legs = all_from (Within v.u v.e v.low v.high) legs form v.legs_are (vertical_within v.u v.low v.high v.e v.k (omega arith)) in
+    let kinds : All (λ l. l.series.kind ≡ v.k) legs = all_from (λ l. l.series.kind ≡ v.k) legs form v.legs_are (vertical_kind v.u v.low v.high v.e v.k) in
+    let ends : Reached strike_of legs v.low v.high = reached_from strike_of legs form v.low v.high v.legs_are (vertical_reached v.u v.low v.high v.e v.k) in
     let lo : low ≤ v.low = ends.lowest low (omega arith, (omega arith, tt)) in
     let hi : v.high ≤ high = ends.highest high (omega arith, (omega arith, tt)) in
     let el : v.low ≡ low = omega arith in
     let eh : v.high ≡ high = omega arith in
-    (omega arith, rw (← each.0.underlying, ← each.0.expiry, ← kinds.0, el, eh) at v.legs-are)
+    (omega arith, rw (← each.0.underlying, ← each.0.expiry, ← kinds.0, el, eh) at v.legs_are)
 
 pub calendar_read : (a b : Leg) → IsCalendar 0 (a ∷ b ∷ []) → (near later : ℕ) → near ≡ min a.series.expiry b.series.expiry → later ≡ max a.series.expiry b.series.expiry → (near < later) × Reordered (a ∷ b ∷ []) (calendar a.series.underlying a.series.kind a.series.strike near later)
 calendar_read a b v near later is-near is_later =
     let legs : List Leg = a ∷ b ∷ [] in
     let form : List Leg = calendar v.u v.k v.strike v.near v.later in
-    let each : All (Dated v.u v.k v.strike v.near v.later) legs = all_from (Dated v.u v.k v.strike v.near v.later) legs form v.legs-are (calendar_dated v.u v.k v.strike v.near v.later (omega arith)) in
-    let ends : Reached expiry_of legs v.near v.later = reached_from expiry_of legs form v.near v.later v.legs-are (calendar_reached v.u v.k v.strike v.near v.later) in
+    let each : All (Dated v.u v.k v.strike v.near v.later) legs = all_from (Dated v.u v.k v.strike v.near v.later) legs form v.legs_are (calendar_dated v.u v.k v.strike v.near v.later (omega arith)) in
+    let ends : Reached expiry_of legs v.near v.later = reached_from expiry_of legs form v.near v.later v.legs_are (calendar_reached v.u v.k v.strike v.near v.later) in
     let lo : near ≤ v.near = ends.lowest near (omega arith, (omega arith, tt)) in
     let hi : v.later ≤ later = ends.highest later (omega arith, (omega arith, tt)) in
     let el : v.near ≡ near = omega arith in
     let eh : v.later ≡ later = omega arith in
-    (omega arith, rw (← each.0.underlying, ← each.0.kind, ← each.0.at, el, eh) at v.legs-are)
+    (omega arith, rw (← each.0.underlying, ← each.0.kind, ← each.0.at, el, eh) at v.legs_are)
 
 pub record Butterfly_read (a b c : Leg) (low middle high width : ℕ) : Type 0 where
   pub wide : 0 < width
@@ -125,24 +125,24 @@ pub butterfly_read : (a b c : Leg) (w : ℕ) → IsButterfly w (a ∷ b ∷ c �
 butterfly_read a b c w v low high width middle is-low is-high is-width is-middle =
     let legs : List Leg = a ∷ b ∷ c ∷ [] in
     let form : List Leg = butterfly v.u v.k v.low v.middle v.high v.e in
-    let each : All (Within v.u v.e v.low v.high) legs = all_from (Within v.u v.e v.low v.high) legs form v.legs-are (butterfly_within v.u v.low v.high v.e v.k v.middle (omega arith) (omega arith)) in
-    let kinds : All (λ l. l.series.kind ≡ v.k) legs = all_from (λ l. l.series.kind ≡ v.k) legs form v.legs-are (butterfly_kind v.u v.low v.high v.e v.k v.middle) in
-    let ends : Reached strike_of legs v.low v.high = reached_from strike_of legs form v.low v.high v.legs-are (butterfly_reached v.u v.low v.high v.e v.k v.middle) in
+    let each : All (Within v.u v.e v.low v.high) legs = all_from (Within v.u v.e v.low v.high) legs form v.legs_are (butterfly_within v.u v.low v.high v.e v.k v.middle (omega arith) (omega arith)) in
+    let kinds : All (λ l. l.series.kind ≡ v.k) legs = all_from (λ l. l.series.kind ≡ v.k) legs form v.legs_are (butterfly_kind v.u v.low v.high v.e v.k v.middle) in
+    let ends : Reached strike_of legs v.low v.high = reached_from strike_of legs form v.low v.high v.legs_are (butterfly_reached v.u v.low v.high v.e v.k v.middle) in
     let lo : low ≤ v.low = ends.lowest low (omega arith, (omega arith, (omega arith, tt))) in
     let hi : v.high ≤ high = ends.highest high (omega arith, (omega arith, (omega arith, tt))) in
     let el : v.low ≡ low = omega arith in
     let eh : v.high ≡ high = omega arith in
     let em : v.middle ≡ middle = omega arith in
-    record { wide = omega arith; above = omega arith; legs_are = rw (← each.0.underlying, ← each.0.expiry, ← kinds.0, el, em, eh) at v.legs-are }
+    record { wide = omega arith; above = omega arith; legs_are = rw (← each.0.underlying, ← each.0.expiry, ← kinds.0, el, em, eh) at v.legs_are }
 
 pub box_read : (a b c d : Leg) (w : ℕ) → IsBox w (a ∷ b ∷ c ∷ d ∷ []) → (low high : ℕ) → low ≡ min (min (min a.series.strike b.series.strike) c.series.strike) d.series.strike → high ≡ max (max (max a.series.strike b.series.strike) c.series.strike) d.series.strike → (low < high) × Reordered (a ∷ b ∷ c ∷ d ∷ []) (box a.series.underlying low high a.series.expiry)
 box_read a b c d w v low high is-low is-high =
     let legs : List Leg = a ∷ b ∷ c ∷ d ∷ [] in
     let form : List Leg = box v.u v.low v.high v.e in
-    let each : All (Within v.u v.e v.low v.high) legs = all_from (Within v.u v.e v.low v.high) legs form v.legs-are (box_within v.u v.low v.high v.e (omega arith)) in
-    let ends : Reached strike_of legs v.low v.high = reached_from strike_of legs form v.low v.high v.legs-are (box_reached v.u v.low v.high v.e) in
+    let each : All (Within v.u v.e v.low v.high) legs = all_from (Within v.u v.e v.low v.high) legs form v.legs_are (box_within v.u v.low v.high v.e (omega arith)) in
+    let ends : Reached strike_of legs v.low v.high = reached_from strike_of legs form v.low v.high v.legs_are (box_reached v.u v.low v.high v.e) in
     let lo : low ≤ v.low = ends.lowest low (omega arith, (omega arith, (omega arith, (omega arith, tt)))) in
     let hi : v.high ≤ high = ends.highest high (omega arith, (omega arith, (omega arith, (omega arith, tt)))) in
     let el : v.low ≡ low = omega arith in
     let eh : v.high ≡ high = omega arith in
-    (omega arith, rw (← each.0.underlying, ← each.0.expiry, el, eh) at v.legs-are)
+    (omega arith, rw (← each.0.underlying, ← each.0.expiry, el, eh) at v.legs_are)

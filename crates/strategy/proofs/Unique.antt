@@ -83,13 +83,13 @@ module _ (w : ℕ) (legs : List Leg) where
   marks Vertical v =
       let form : List Leg = vertical v.u v.k v.low v.high v.e in
       let n : length legs ≡ 2 = length-vertical w legs v in
-      let b : balance legs ≡ pos 0 = sum_reordered one legs form v.legs-are ∙ vertical_balance v.u v.k v.low v.high v.e in
+      let b : balance legs ≡ pos 0 = sum_reordered one legs form v.legs_are ∙ vertical_balance v.u v.k v.low v.high v.e in
       inr (wide_marks Vertical (rw (n, ne_eqb w 0 (omega arith))) (vertical_worth w legs v) v.wide (omega (arith, ints)) (omega (arith, ints)))
   marks Calendar v =
       let form : List Leg = calendar v.u v.k v.strike v.near v.later in
       let n : length legs ≡ 2 = length-calendar w legs v in
-      let b : balance legs ≡ balance form = sum_reordered one legs form v.legs-are in
-      let d : signed_sum expiry_of legs ≡ signed_sum expiry_of form = sum_reordered expiry_of legs form v.legs-are in
+      let b : balance legs ≡ balance form = sum_reordered one legs form v.legs_are in
+      let d : signed_sum expiry_of legs ≡ signed_sum expiry_of form = sum_reordered expiry_of legs form v.legs_are in
       inr record {
         class_is = rw (n, v.flat);
         worth = rw v.flat (calendar_worth w legs v);
@@ -100,12 +100,12 @@ module _ (w : ℕ) (legs : List Leg) where
   marks Butterfly v =
       let form : List Leg = butterfly v.u v.k v.low v.middle v.high v.e in
       let n : length legs ≡ 3 = length-butterfly w legs v in
-      let b : balance legs ≡ balance form = sum_reordered one legs form v.legs-are in
+      let b : balance legs ≡ balance form = sum_reordered one legs form v.legs_are in
       inr (wide_marks Butterfly (rw n) (butterfly_worth w legs v) v.wide (omega (arith, ints)) (omega (arith, ints)))
   marks BoxSpread v =
       let form : List Leg = box v.u v.low v.high v.e in
       let n : length legs ≡ 4 = length-box w legs v in
-      let b : balance legs ≡ balance form = sum_reordered one legs form v.legs-are in
+      let b : balance legs ≡ balance form = sum_reordered one legs form v.legs_are in
       inr (wide_marks BoxSpread (rw n) (box_worth w legs v) v.wide (omega (arith, ints)) (omega (arith, ints)))
   marks Other v = absurd v
 
@@ -116,14 +116,14 @@ at_most legs w w' v v' =
 
 -- legs that are two long forms are the same one twice
 same_form : (c c' : Class) (w w' : ℕ) (legs : List Leg) → AllBought c w legs ⊎ Marks c w legs → AllBought c' w' legs ⊎ Marks c' w' legs → (c ≡ c') × (w ≡ w')
-same_form c c' w w' legs (inl a) (inl b) = (a.class-is ∙ sym b.class-is, a.flat ∙ sym b.flat)
+same_form c c' w w' legs (inl a) (inl b) = (a.class_is ∙ sym b.class_is, a.flat ∙ sym b.flat)
 same_form c c' w w' legs (inl a) (inr m) = absurd (omega (arith, ints, a.all, m.mixed))
 same_form c c' w w' legs (inr m) (inl b) = absurd (omega (arith, ints, b.all, m.mixed))
 same_form c c' w w' legs (inr m) (inr o) =
     let p : w ≤ w' = at_most legs w w' m.worth o.worth in
     let q : w' ≤ w = at_most legs w' w o.worth m.worth in
     let e : w ≡ w' = omega arith in
-    (m.class-is ∙ ap (class_by (length legs)) e ∙ sym o.class-is, e)
+    (m.class_is ∙ ap (class_by (length legs)) e ∙ sym o.class_is, e)
 
 flipped_payoff : (legs : List Leg) (s : ℕ) → payoff (map flipped legs) s ≡ neg_ℤ (payoff legs s)
 flipped_payoff legs s = flipped_sum (leg_paid s) (λ l. refl) legs
@@ -168,7 +168,7 @@ same_strategy a b e f g = λ i. record { class = e i; width = f i; turned = g i 
 pub unique : (legs : List Leg) (r s : Strategy) → Classified legs r → Classified legs s → s ≡ r
 unique legs r s (inl v) (inl v') =
     let e = one_turning s.turned r.turned s.class r.class s.width r.width legs v' v in same_strategy s r e.0 e.1 e.2
-unique legs r s (inl v) (inr o) = absurd (o.no-form r.turned r.class r.width v)
-unique legs r s (inr o) (inl v) = absurd (o.no-form s.turned s.class s.width v)
+unique legs r s (inl v) (inr o) = absurd (o.no_form r.turned r.class r.width v)
+unique legs r s (inr o) (inl v) = absurd (o.no_form s.turned s.class s.width v)
 unique legs r s (inr o) (inr p) =
-    same_strategy s r (p.class-is ∙ sym o.class-is) (p.width_is ∙ sym o.width_is) (p.turned-is ∙ sym o.turned-is)
+    same_strategy s r (p.class_is ∙ sym o.class_is) (p.width_is ∙ sym o.width_is) (p.turned_is ∙ sym o.turned_is)

@@ -94,15 +94,15 @@ reordered legs form width r w =
 module _ (w : ℕ) (legs : List Leg) where
   pub vertical_worth : IsVertical w legs → Worth legs w
   vertical_worth v =
-      reordered legs (vertical v.u v.k v.low v.high v.e) w v.legs-are (vertical_form v.u v.low v.high v.e w v.apart v.k)
+      reordered legs (vertical v.u v.k v.low v.high v.e) w v.legs_are (vertical_form v.u v.low v.high v.e w v.apart v.k)
 
   pub calendar_worth : IsCalendar w legs → Worth legs 0
   calendar_worth v =
-      reordered legs (calendar v.u v.k v.strike v.near v.later) 0 v.legs-are (calendar_form v.u v.k v.strike v.near v.later)
+      reordered legs (calendar v.u v.k v.strike v.near v.later) 0 v.legs_are (calendar_form v.u v.k v.strike v.near v.later)
 
   pub butterfly_worth : IsButterfly w legs → Worth legs w
   butterfly_worth v =
-      reordered legs (butterfly v.u v.k v.low v.middle v.high v.e) w v.legs-are (butterfly_form v.u v.low v.middle v.high v.e w v.below v.above v.k)
+      reordered legs (butterfly v.u v.k v.low v.middle v.high v.e) w v.legs_are (butterfly_form v.u v.low v.middle v.high v.e w v.below v.above v.k)
 
   pub box_worth : IsBox w legs → Worth legs w
-  box_worth v = reordered legs (box v.u v.low v.high v.e) w v.legs-are (box_form v.u v.low v.high v.e w v.apart)
+  box_worth v = reordered legs (box v.u v.low v.high v.e) w v.legs_are (box_form v.u v.low v.high v.e w v.apart)

@@ -120,5 +120,5 @@ module _ (s : QuoteSide) (p n : ℕ) (ls : List Level) (few : ninth p n ls ≡ f
   pub set_answer_lem : ◌≡◌ {A = Result (Unit {0}) MarketFault} (Ok tt) (cond (ninth p n ls) (Err NinthLevel) (Ok tt))
   set_answer_lem = sym (cond-false (ninth p n ls) (Err NinthLevel) (Ok tt) few)
 
-  pub set_after : (ms : List Level) → ms ≡ with_size s p n ls → ms ≡ cond (ninth p n ls) ls (with_size s p n ls)
-  set_after ms e = e ∙ sym (cond-false (ninth p n ls) ls (with_size s p n ls) few)
+  pub set_after_lem : (ms : List Level) → ms ≡ with_size s p n ls → ms ≡ cond (ninth p n ls) ls (with_size s p n ls)
+  set_after_lem ms e = e ∙ sym (cond-false (ninth p n ls) ls (with_size s p n ls) few)

@@ -12,7 +12,7 @@ returns-else-width-gt0 c n v =
     butterfly_read c.args.a c.args.b c.args.c n v c.min-low.result c.max-high.result width middle (omega arith) (omega arith) refl refl in
     elim c.else-width-gt0.branch [
       | else-width-gt0-via-then-width-gt0+then-middle-width+else-same-three w ↦
-          both_ways w.same-three.result w.if-same-three.false (w.same-three.ensures.1 (rw (c.buy-lower.ensures, c.sell-sold.ensures, c.buy-higher.ensures) r.legs-are))
+          both_ways w.same-three.result w.if-same-three.false (w.same-three.ensures.1 (rw (c.buy-lower.ensures, c.sell-sold.ensures, c.buy-higher.ensures) r.legs_are))
       | else-width-gt0-via-then-width-gt0+else-middle-width w ↦ omega arith
       | else-width-gt0-via-else-width-gt0 w ↦ omega arith
     ]
