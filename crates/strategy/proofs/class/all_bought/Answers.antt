@@ -20,7 +20,7 @@ returns-in-Sell c =
 
 pub loop-leg-preserved : goal.loop-leg-preserved
 loop-leg-preserved c =
-    All-more (λ x. x.side ≡ Buy) c.args.legs.now c.loop-leg.leg-index _ (omega arith) c.loop-leg.invariant c.in-default.is
+    All-more (λ x. x.side ≡ Buy) c.args.legs.now c.loop-leg.leg-index _ (omega arith) c.loop-leg.invariant c.in_default.is
 
 pub returns : goal.returns
 returns c =

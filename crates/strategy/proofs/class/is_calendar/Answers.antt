@@ -18,4 +18,4 @@ returns c =
     })
     (λ v. let r = calendar_read c.args.a c.args.b v c.min-near.result c.max-later.result c.min-near.ensures c.max-later.ensures in
     (r.0, rw (c.dated-bought.ensures, c.dated-sold.ensures) r.1))
-    (Decides-and (ltb c.min-near.result c.max-later.result) c.same-two.result (Decides-ltb c.min-near.result c.max-later.result) c.same-two.ensures)
+    (Decides-and (ltb c.min-near.result c.max-later.result) c.same_two.result (Decides-ltb c.min-near.result c.max-later.result) c.same_two.ensures)

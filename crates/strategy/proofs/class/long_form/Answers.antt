@@ -17,13 +17,13 @@ four-legs-requires c =
     rw (four_are c.args.legs.now no_leg no_leg no_leg no_leg (search rules)) at (not_from_Decides _ c.all-bought.ensures c.if-all-bought.false)
 
 pub returns-in-len2 : goal.returns-in-len2
-returns-in-len2 c = rw (two_are c.args.legs.now no_leg no_leg (search rules)) c.two-legs.ensures
+returns-in-len2 c = rw (two_are c.args.legs.now no_leg no_leg (search rules)) c.two_legs.ensures
 
 pub returns-in-len3 : goal.returns-in-len3
-returns-in-len3 c = rw (three_are c.args.legs.now no_leg no_leg no_leg (search rules)) c.three-legs.ensures
+returns-in-len3 c = rw (three_are c.args.legs.now no_leg no_leg no_leg (search rules)) c.three_legs.ensures
 
 pub returns-in-len4 : goal.returns-in-len4
-returns-in-len4 c = rw (four_are c.args.legs.now no_leg no_leg no_leg no_leg (search rules)) c.four-legs.ensures
+returns-in-len4 c = rw (four_are c.args.legs.now no_leg no_leg no_leg no_leg (search rules)) c.four_legs.ensures
 
 pub returns-in-default : goal.returns-in-default
 returns-in-default c =

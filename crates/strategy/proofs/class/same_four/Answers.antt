@@ -8,7 +8,7 @@ returns c =
     (Decides-or _ _
     (Decides-or _ _
     (Decides-or _ _
-    (Decides-and _ _ c.same.ensures c.same-three.ensures)
-    (Decides-and _ _ c.same-2.ensures c.same-three-2.ensures))
-    (Decides-and _ _ c.same-3.ensures c.same-three-3.ensures))
-    (Decides-and _ _ c.same-4.ensures c.same-three-4.ensures))
+    (Decides-and _ _ c.same.ensures c.same_three.ensures)
+    (Decides-and _ _ c.same-2.ensures c.same_three-2.ensures))
+    (Decides-and _ _ c.same-3.ensures c.same_three-3.ensures))
+    (Decides-and _ _ c.same-4.ensures c.same_three-4.ensures))

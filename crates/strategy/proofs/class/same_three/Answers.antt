@@ -7,6 +7,6 @@ returns c =
     Decides-like _ (three_from _ _ _ _ _) (three_of _ _ _ _ _)
     (Decides-or _ _
     (Decides-or _ _
-    (Decides-and _ _ c.same.ensures c.same-two.ensures)
-    (Decides-and _ _ c.same-2.ensures c.same-two-2.ensures))
-    (Decides-and _ _ c.same-3.ensures c.same-two-3.ensures))
+    (Decides-and _ _ c.same.ensures c.same_two.ensures)
+    (Decides-and _ _ c.same-2.ensures c.same_two-2.ensures))
+    (Decides-and _ _ c.same-3.ensures c.same_two-3.ensures))

@@ -10,7 +10,7 @@ returns-in-None-2 c =
     excluded legs record {
       bought = c.requires;
       vertical = c.in-None-2.ensures;
-      calendar = not_from_Decides _ c.is-calendar.ensures c.if-is-calendar.false;
+      calendar = not_from_Decides _ c.is_calendar.ensures c.if-is_calendar.false;
       butterfly = λ w v. omega (arith, length-butterfly w legs v);
       box = λ w v. omega (arith, length-box w legs v);
     }

@@ -2,7 +2,7 @@ use Rattle.std.proofs.Common.{arith, rules}
 use Rattle.std.proofs.lemmas.Bool.{both_ways}
 use Rattle.strategy.proofs.Span.{vertical_read}
 use Rattle.strategy.proofs.class.vertical_width.Goals as goal
-use Rattle.strategy.proofs.class.vertical_width.Goals.{else-low-high-via-then-low-high+else-same-two, else-low-high-via-else-low-high}
+use Rattle.strategy.proofs.class.vertical_width.Goals.{else-low-high-via-then-low-high+else-same_two, else-low-high-via-else-low-high}
 
 pub returns-then-same-two : goal.returns-then-same-two
 returns-then-same-two c =
@@ -20,4 +20,4 @@ returns-then-same-two c =
 pub returns-else-low-high : goal.returns-else-low-high
 returns-else-low-high c n v =
     let r = vertical_read _ _ n v _ _ c.min-low.ensures c.max-high.ensures in
-    elim c.else-low-high.branch [ else-low-high-via-then-low-high+else-same-two w ↦ both_ways _ w.if-same-two.false (w.same-two.ensures.1 (rw c.vertical.ensures r.1)) | else-low-high-via-else-low-high w ↦ omega arith ]
+    elim c.else-low-high.branch [ else-low-high-via-then-low-high+else-same_two w ↦ both_ways _ w.if-same_two.false (w.same_two.ensures.1 (rw c.vertical.ensures r.1)) | else-low-high-via-else-low-high w ↦ omega arith ]

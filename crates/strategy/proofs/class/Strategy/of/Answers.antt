@@ -15,7 +15,7 @@ long legs form s e v =
 pub returns-in-Some : goal.returns-in-Some
 returns-in-Some c =
     long (listed c.args.legs.now) _ record { class = c.in-Some.field-0.class; width = c.in-Some.field-0.width; turned = false }
-    c.as-slice.ensures.value c.in-Some.ensures
+    c.as_slice.ensures.value c.in-Some.ensures
 
 pub returns-in-Some-long-form : goal.returns-in-Some-long-form
 returns-in-Some-long-form c =
