@@ -1,3 +1,4 @@
 // What the gate answers, and the bytes of each answer.
+#![tactic(auto)]
 pub mod answer;
 pub mod words;

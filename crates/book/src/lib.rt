@@ -1,4 +1,5 @@
 // The book of resting orders.
+#![tactic(auto)]
 pub mod book;
 pub mod fault;
 pub mod order;

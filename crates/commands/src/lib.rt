@@ -1,4 +1,5 @@
 // The commands that lines stand for.
+#![tactic(auto)]
 pub mod command;
 mod fields;
 mod forms;

@@ -1,2 +1,3 @@
 // The gate and its calls.
+#![tactic(auto)]
 pub mod gate;

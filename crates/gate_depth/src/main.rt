@@ -1,4 +1,5 @@
 // The gate over the ladder: lines from standard input, answers to standard output.
+#![tactic(auto)]
 use session::desk::run;
 use std::io::BufWriter;
 use venues::ladder::Ladder;

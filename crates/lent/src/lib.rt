@@ -1,2 +1,3 @@
 // Growing lists over memory that a caller lends.
+#![tactic(auto)]
 pub mod list;

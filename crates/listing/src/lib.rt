@@ -1,2 +1,3 @@
 // The table of listed series.
+#![tactic(auto)]
 pub mod table;

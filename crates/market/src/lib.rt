@@ -1,4 +1,6 @@
 // Markets of option series: their levels, what is taken there, and what strategies cost in them.
+#![tactic(auto)]
+
 pub mod leg;
 pub mod net;
 pub mod quote;

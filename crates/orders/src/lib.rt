@@ -1,4 +1,6 @@
 // Orders as a caller hands them in, and as the gate keeps them.
+#![tactic(auto)]
+
 pub mod bell;
 mod checks;
 mod conditions;

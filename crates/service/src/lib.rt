@@ -1,2 +1,3 @@
 // Answering lines: each one before the next is waited for.
+#![tactic(auto)]
 pub mod answerer;

@@ -1,4 +1,6 @@
 // What a strategy of two to four option legs is, what it can be worth, and what the price protections say of its prices.
+#![tactic(auto)]
+
 pub mod class;
 pub mod leg;
 pub mod legs;

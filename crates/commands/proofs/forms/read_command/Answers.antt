@@ -4,11 +4,11 @@ use Rattle.commands.specs.Words.{head_name}
 use Rattle.commands.proofs.Sayings.{headless, no_enter}
 use Rattle.commands.proofs.forms.read_command.Goals as goal
 
-pub returns-in-err-next-keyword : goal.returns-in-err-next-keyword
-returns-in-err-next-keyword c = rw c.from-residual.ensures (headless (rest c.args.from.now) c.in-err-next-keyword.ensures)
+pub returns-in_err-next_keyword : goal.returns-in_err-next_keyword
+returns-in_err-next_keyword c = rw c.from-residual.ensures (headless (rest c.args.from.now) c.in_err-next_keyword.ensures)
 
-pub returns-in-err-read-order : goal.returns-in-err-read-order
-returns-in-err-read-order c = rw c.from-residual-in-err-read-order.ensures
-    (no_enter (rest c.args.from.now) (rest c.next-keyword.new.from)
-    (c.in-ok-next-keyword.ensures ∙ ap (λ h. word (head_name h) ∷ rest c.next-keyword.new.from) c.in-Enter.is)
-    c.in-err-read-order.ensures)
+pub returns-in_err-read_order : goal.returns-in_err-read_order
+returns-in_err-read_order c = rw c.from-residual-in_err-read_order.ensures
+    (no_enter (rest c.args.from.now) (rest c.next_keyword.new.from)
+    (c.in_ok-next_keyword.ensures ∙ ap (λ h. word (head_name h) ∷ rest c.next_keyword.new.from) c.in-Enter.is)
+    c.in_err-read_order.ensures)

@@ -17,7 +17,7 @@ all feed line r h cut = record { answer = h; only = λ s. one_answer feed line r
 pub returns-then-takes : goal.returns-then-takes
 unfolding rest
 returns-then-takes c =
-    let opened = c.in-ok-from.ensures in
+    let opened = c.in_ok-from.ensures in
     let taken = sym c.if-takes.ensures in
     all c.args.feed c.args.line.now (Ok c.in-Some.command)
     (understood c.args.feed c.args.line.now _ opened.answer c.in-Some.command taken c.in-Some.ensures)
@@ -26,24 +26,24 @@ returns-then-takes c =
 pub returns-else-takes : goal.returns-else-takes
 unfolding rest
 returns-else-takes c =
-    let opened = c.in-ok-from.ensures in
+    let opened = c.in_ok-from.ensures in
     let untaken-by = sym c.if-takes.ensures in
     all c.args.feed c.args.line.now (Err Unknown)
     (untaken c.args.feed c.args.line.now _ opened.answer c.in-Some.command untaken-by c.in-Some.ensures)
     (λ whole e. untaken c.args.feed whole _ (opened.cut whole e) c.in-Some.command untaken-by c.in-Some.ensures)
 
-pub returns-in-default : goal.returns-in-default
+pub returns-in_default : goal.returns-in_default
 unfolding rest
-returns-in-default c =
-    let opened = c.in-ok-from.ensures in
+returns-in_default c =
+    let opened = c.in_ok-from.ensures in
     all c.args.feed c.args.line.now (Err Unknown)
-    (strange c.args.feed c.args.line.now _ opened.answer (λ d t. c.in-default.ensures d))
-    (λ whole e. strange c.args.feed whole _ (opened.cut whole e) (λ d t. c.in-default.ensures d))
+    (strange c.args.feed c.args.line.now _ opened.answer (λ d t. c.in_default.ensures d))
+    (λ whole e. strange c.args.feed whole _ (opened.cut whole e) (λ d t. c.in_default.ensures d))
 
-pub returns-in-err-from : goal.returns-in-err-from
-returns-in-err-from c =
-    let opened = c.in-err-from.ensures in
-    let fault = c.in-err-from.field-0.0 in
+pub returns-in_err-from : goal.returns-in_err-from
+returns-in_err-from c =
+    let opened = c.in_err-from.ensures in
+    let fault = c.in_err-from.field-0.0 in
     let p = err_from_is_err_and c.from-residual.result c.from-residual.ensures.1 in
     rw (p.1 ∙ ap Err p.2)
     (all c.args.feed c.args.line.now (Err fault)

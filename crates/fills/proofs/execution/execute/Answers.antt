@@ -8,13 +8,13 @@ pub returns : goal.returns
 returns g c =
     let b = g.M.Market.levels c.args.market.now in
     let o = c.args.order.now in
-    let e = sym c.in-ok-fill.was ∙ c.quotation.ensures.answer in
+    let e = sym c.in_ok-fill.was ∙ c.quotation.ensures.answer in
     let has = filled b o c.args.remaining c.args.buffers _ e in
     record {
       answer = e;
       fill = has;
       law = fill_law b o c.args.remaining c.args.buffers _ e;
       low = low_buy b o c.args.remaining c.args.buffers _ e;
-      after = after_takes b (g.M.Market.levels c.take-legs.new.market) (taken_side o.side) _ _ o.legs.legs _ o.legs.sound has.shown c.taken-side-side.ensures c.as-legs.ensures.value c.take-legs.ensures.after;
-      same = c.take-legs.ensures.same;
+      after = after_takes b (g.M.Market.levels c.take_legs.new.market) (taken_side o.side) _ _ o.legs.legs _ o.legs.sound has.shown c.taken_side-side.ensures c.as_legs.ensures.value c.take_legs.ensures.after;
+      same = c.take_legs.ensures.same;
     }

@@ -7,8 +7,8 @@ use Rattle.fills.proofs.Units.{priced}
 use Rattle.fills.proofs.Quotes.{filled, fill_law, low_buy}
 use Rattle.fills.proofs.quotation.quotation.Goals as goal
 
-pub returns-then-is-prevented : goal.returns-then-is-prevented
-returns-then-is-prevented g c =
+pub returns-then-is_prevented : goal.returns-then-is_prevented
+returns-then-is_prevented g c =
     let b = g.M.Market.levels c.args.market.now in
     let o = c.args.order.now in
     let e : ◌≡◌ {A = Result Fill GateFault} (Err Prevented) (quoted b o c.args.remaining c.args.buffers) = search rules in
@@ -18,7 +18,7 @@ pub returns : goal.returns
 returns g c =
     let b = g.M.Market.levels c.args.market.now in
     let o = c.args.order.now in
-    let e : ◌≡◌ {A = Result Fill GateFault} (Ok c.fill-at.result) (quoted b o c.args.remaining c.args.buffers) = search rules in
+    let e : ◌≡◌ {A = Result Fill GateFault} (Ok c.fill_at.result) (quoted b o c.args.remaining c.args.buffers) = search rules in
     record {
       answer = e;
       fill = filled b o c.args.remaining c.args.buffers _ e;
@@ -28,5 +28,5 @@ returns g c =
 
 pub unwrap-net-requires : goal.unwrap-net-requires
 unwrap-net-requires g c =
-    priced (g.M.Market.levels c.args.market.now) c.taken-side-side.result c.args.order.now.legs.legs c.as-legs-legs.result c.as-slice.result.now c.lacking-leg.result c.side.result c.net-market.result
-    c.args.order.now.legs.sound c.as-legs-legs.ensures.value c.as-slice.ensures.value c.lacking-leg.ensures c.in-default.is c.net-market.ensures c.side.ensures
+    priced (g.M.Market.levels c.args.market.now) c.taken_side-side.result c.args.order.now.legs.legs c.as_legs-legs.result c.as_slice.result.now c.lacking_leg.result c.side.result c.net_market.result
+    c.args.order.now.legs.sound c.as_legs-legs.ensures.value c.as_slice.ensures.value c.lacking_leg.ensures c.in_default.is c.net_market.ensures c.side.ensures

@@ -11,7 +11,7 @@ pub loop-leg-preserved : goal.loop-leg-preserved
 loop-leg-preserved g c = (
   ratio_more (g.M.Market.levels c.args.market.now) c.args.net c.args.legs.now c.loop-leg.leg-index c.loop-leg-test.true c.loop-leg.invariant.0,
   omega arith,
-  units_more (g.M.Market.levels c.args.market.now) c.args.net c.args.legs.now c.loop-leg.leg-index c.loop-leg-test.true _ c.used-level.ensures _ _ _ c.loop-leg.invariant.2 (cc),
+  units_more (g.M.Market.levels c.args.market.now) c.args.net c.args.legs.now c.loop-leg.leg-index c.loop-leg-test.true _ c.used_level.ensures _ _ _ c.loop-leg.invariant.2 (cc),
 )
 
 pub returns : goal.returns

@@ -3,10 +3,10 @@ use Rattle.std.proofs.lemmas.Int.{ints}
 use Rattle.market.proofs.Nets.{net_some, net_none, net_all}
 use Rattle.market.proofs.net.net_side.Goals as goal
 
-pub returns-in-err-price : goal.returns-in-err-price
-returns-in-err-price g c =
+pub returns-in_err-price : goal.returns-in_err-price
+returns-in_err-price g c =
     c.from-residual.ensures
-    ∙ sym (net_none (g.M.Market.levels c.args.market.now) c.args.side c.args.legs.now c.loop-leg.leg-index c.loop-leg-test.true _ c.used-side.ensures _ c.best.ensures _ c.loop-leg.invariant.3 c.in-err-price.was)
+    ∙ sym (net_none (g.M.Market.levels c.args.market.now) c.args.side c.args.legs.now c.loop-leg.leg-index c.loop-leg-test.true _ c.used_side.ensures _ c.best.ensures _ c.loop-leg.invariant.3 c.in_err-price.was)
 
 pub overflow-add-sum : goal.overflow-add-sum
 overflow-add-sum g c = omega (arith, ints)
@@ -16,7 +16,7 @@ loop-leg-preserved g c = (
   omega arith,
   omega (arith, ints),
   omega (arith, ints),
-  net_some (g.M.Market.levels c.args.market.now) c.args.side c.args.legs.now c.loop-leg.leg-index c.loop-leg-test.true _ c.used-side.ensures _ c.best.ensures _ c.loop-leg.invariant.3 _ _ c.in-ok-price.was _ _ c.signed-price-sum.ensures.value (omega (arith, ints)),
+  net_some (g.M.Market.levels c.args.market.now) c.args.side c.args.legs.now c.loop-leg.leg-index c.loop-leg-test.true _ c.used_side.ensures _ c.best.ensures _ c.loop-leg.invariant.3 _ _ c.in_ok-price.was _ _ c.signed_price-sum.ensures.value (omega (arith, ints)),
 )
 
 pub returns : goal.returns

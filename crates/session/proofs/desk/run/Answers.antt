@@ -5,15 +5,15 @@ use Rattle.session.specs.Views.{view}
 use Rattle.session.proofs.Running.{ran}
 use Rattle.session.proofs.desk.run.Goals as goal
 
-pub returns-in-err-notices : goal.returns-in-err-notices
-returns-in-err-notices g c = MatchResult-from_err c.from-residual-in-err-notices.result _ _ c.from-residual-in-err-notices.ensures.0 (λ _. tt)
+pub returns-in_err-notices : goal.returns-in_err-notices
+returns-in_err-notices g c = MatchResult-from_err c.from-residual-in_err-notices.result _ _ c.from-residual-in_err-notices.ensures.0 (λ _. tt)
 
 pub returns : goal.returns
 returns g c =
     let made = c.new.ensures.gate in
     let new = subst New (sym made) c.new-gate.ensures.new in
-    let tape = ap (λ s. s.tape_room) made ∙ c.new-gate.ensures.tape ∙ c.as-mut-slice.ensures.len ∙ c.in-ok-tape.ensures.len in
-    let notices = ap (λ s. s.notice_room) made ∙ c.new-gate.ensures.notices ∙ c.as-mut-slice-2.ensures.len ∙ c.in-ok-notices.ensures.len in
+    let tape = ap (λ s. s.tape_room) made ∙ c.new-gate.ensures.tape ∙ c.as_mut_slice.ensures.len ∙ c.in_ok-tape.ensures.len in
+    let notices = ap (λ s. s.notice_room) made ∙ c.new-gate.ensures.notices ∙ c.as_mut_slice-2.ensures.len ∙ c.in_ok-notices.ensures.len in
     MatchResult-weaker c.serve.result c.serve.ensures
     (λ _ served. ran (λ d. view g.V.Market.levels g.V.Venue.updated g.V.Venue.after d.session) _ _ _ new tape notices (ap g.V.Market.levels c.new.ensures.venue) served)
     (λ _ u. u)

@@ -4,8 +4,8 @@ use Rattle.strategy.proofs.Span.{box_read}
 use Rattle.strategy.proofs.class.box_width.Goals as goal
 use Rattle.strategy.proofs.class.box_width.Goals.{else-low-high-via-then-low-high+else-same_four, else-low-high-via-else-low-high}
 
-pub returns-then-same-four : goal.returns-then-same-four
-returns-then-same-four c =
+pub returns-then-same_four : goal.returns-then-same_four
+returns-then-same_four c =
     record {
       u = c.args.a.series.underlying;
       low = c.min-low.result;
@@ -13,7 +13,7 @@ returns-then-same-four c =
       e = c.args.a.series.expiry;
       wide = omega arith;
       apart = omega arith;
-      legs_are = rw (c.buy-low-call.ensures, c.sell-low-put.ensures, c.sell-high-call.ensures, c.buy-high-put.ensures) at (c.same-four.ensures.0 c.if-same-four.true);
+      legs_are = rw (c.buy-low_call.ensures, c.sell-low_put.ensures, c.sell-high_call.ensures, c.buy-high_put.ensures) at (c.same_four.ensures.0 c.if-same_four.true);
     }
 
 pub returns-else-low-high : goal.returns-else-low-high

@@ -4,17 +4,17 @@ use Rattle.strategy.proofs.Excluded.{other_count}
 use Rattle.strategy.proofs.Short.{two_are, three_are, four_are, no_leg}
 use Rattle.strategy.proofs.class.long_form.Goals as goal
 
-pub two-legs-requires : goal.two-legs-requires
-two-legs-requires c =
-    rw (two_are c.args.legs.now no_leg no_leg (search rules)) at (not_from_Decides _ c.all-bought.ensures c.if-all-bought.false)
+pub two_legs-requires : goal.two_legs-requires
+two_legs-requires c =
+    rw (two_are c.args.legs.now no_leg no_leg (search rules)) at (not_from_Decides _ c.all_bought.ensures c.if-all_bought.false)
 
-pub three-legs-requires : goal.three-legs-requires
-three-legs-requires c =
-    rw (three_are c.args.legs.now no_leg no_leg no_leg (search rules)) at (not_from_Decides _ c.all-bought.ensures c.if-all-bought.false)
+pub three_legs-requires : goal.three_legs-requires
+three_legs-requires c =
+    rw (three_are c.args.legs.now no_leg no_leg no_leg (search rules)) at (not_from_Decides _ c.all_bought.ensures c.if-all_bought.false)
 
-pub four-legs-requires : goal.four-legs-requires
-four-legs-requires c =
-    rw (four_are c.args.legs.now no_leg no_leg no_leg no_leg (search rules)) at (not_from_Decides _ c.all-bought.ensures c.if-all-bought.false)
+pub four_legs-requires : goal.four_legs-requires
+four_legs-requires c =
+    rw (four_are c.args.legs.now no_leg no_leg no_leg no_leg (search rules)) at (not_from_Decides _ c.all_bought.ensures c.if-all_bought.false)
 
 pub returns-in-len2 : goal.returns-in-len2
 returns-in-len2 c = rw (two_are c.args.legs.now no_leg no_leg (search rules)) c.two_legs.ensures
@@ -25,12 +25,12 @@ returns-in-len3 c = rw (three_are c.args.legs.now no_leg no_leg no_leg (search r
 pub returns-in-len4 : goal.returns-in-len4
 returns-in-len4 c = rw (four_are c.args.legs.now no_leg no_leg no_leg no_leg (search rules)) c.four_legs.ensures
 
-pub returns-in-default : goal.returns-in-default
-returns-in-default c =
+pub returns-in_default : goal.returns-in_default
+returns-in_default c =
     let short : length c.args.legs.now < 2 = search rules in
-    other_count _ (not_from_Decides _ c.all-bought.ensures c.if-all-bought.false) (inl short)
+    other_count _ (not_from_Decides _ c.all_bought.ensures c.if-all_bought.false) (inl short)
 
-pub returns-in-default·2 : goal.returns-in-default·2
-returns-in-default·2 c =
+pub returns-in_default-2 : goal.returns-in_default-2
+returns-in_default-2 c =
     let long : 4 < length c.args.legs.now = search rules in
-    other_count _ (not_from_Decides _ c.all-bought.ensures c.if-all-bought.false) (inr long)
+    other_count _ (not_from_Decides _ c.all_bought.ensures c.if-all_bought.false) (inr long)

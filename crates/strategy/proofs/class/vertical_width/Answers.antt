@@ -4,8 +4,8 @@ use Rattle.strategy.proofs.Span.{vertical_read}
 use Rattle.strategy.proofs.class.vertical_width.Goals as goal
 use Rattle.strategy.proofs.class.vertical_width.Goals.{else-low-high-via-then-low-high+else-same_two, else-low-high-via-else-low-high}
 
-pub returns-then-same-two : goal.returns-then-same-two
-returns-then-same-two c =
+pub returns-then-same_two : goal.returns-then-same_two
+returns-then-same_two c =
     record {
       u = c.args.a.series.underlying;
       k = c.args.a.series.kind;
@@ -14,7 +14,7 @@ returns-then-same-two c =
       e = c.args.a.series.expiry;
       wide = omega arith;
       apart = omega arith;
-      legs_are = rw c.vertical.ensures at (c.same-two.ensures.0 c.if-same-two.true);
+      legs_are = rw c.vertical.ensures at (c.same_two.ensures.0 c.if-same_two.true);
     }
 
 pub returns-else-low-high : goal.returns-else-low-high

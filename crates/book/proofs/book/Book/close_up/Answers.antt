@@ -8,13 +8,13 @@ pub invariant-of-self : goal.invariant-of-self
 invariant-of-self c =
     let s = c.args.self.now in
     let f : s.used ≤ length s.places = omega arith in (
-      length_closed s.places s.used c.args.place c.requires f _ c.rotate-left.ensures.after ∙ s.sized,
+      length_closed s.places s.used c.args.place c.requires f _ c.rotate_left.ensures.after ∙ s.sized,
       (
         omega arith,
         (
           s.numbered,
           (
-            ap (orderly 0 s.given) (closed s.places s.used c.args.place c.requires f c.rotate-left.new.self c.rotate-left.ensures.after)
+            ap (orderly 0 s.given) (closed s.places s.used c.args.place c.requires f c.rotate_left.new.self c.rotate_left.ensures.after)
                 ∙ orderly_removed 0 s.given (take s.used s.places) c.args.place s.orderly,
             tt,
           ),
@@ -27,7 +27,7 @@ returns c =
     let s = c.args.self.now in
     let f : s.used ≤ length s.places = omega arith in
     record {
-      orders = closed s.places s.used c.args.place c.requires f c.rotate-left.new.self c.rotate-left.ensures.after;
+      orders = closed s.places s.used c.args.place c.requires f c.rotate_left.new.self c.rotate_left.ensures.after;
       count = refl;
       last = refl;
     }

@@ -2,7 +2,7 @@ use Rattle.std.proofs.Common.{sym, ◌∙◌}
 use Rattle.book.specs.Places.{look}
 use Rattle.book.proofs.Tables.{all_passed, look_empty, look_lower, few_numbers, next_is}
 use Rattle.book.proofs.book.Book.next_above.Goals as goal
-use Rattle.book.proofs.book.Book.next_above.Goals.{in-Some+else-order-number, in-default}
+use Rattle.book.proofs.book.Book.next_above.Goals.{in-Some+else-order-number, in_default}
 
 pub returns-then-order-number : goal.returns-then-order-number
 returns-then-order-number c =
@@ -18,7 +18,7 @@ loop-i-preserved c =
     elim c.match-place.branch [
       | in-Some+else-order-number w ↦ λ k above.
           sym (look_lower c.args.self.now c.loop-i.i _ c.loop-i-test.true w.in-Some.order w.in-Some.is c.args.number k w.if-order-number.false above) ∙ c.loop-i.invariant k above
-      | in-default w ↦ λ k above. sym (look_empty c.args.self.now c.loop-i.i _ c.loop-i-test.true w.in-default.is k) ∙ c.loop-i.invariant k above
+      | in_default w ↦ λ k above. sym (look_empty c.args.self.now c.loop-i.i _ c.loop-i-test.true w.in_default.is k) ∙ c.loop-i.invariant k above
     ]
 
 pub returns : goal.returns

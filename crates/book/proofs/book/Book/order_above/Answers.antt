@@ -6,12 +6,12 @@ use Rattle.book.proofs.book.Book.order_above.Goals as goal
 
 pub returns-then-i-self : goal.returns-then-i-self
 returns-then-i-self c =
-    let at = c.place-above-i.ensures in
-    let both = order_here c.args.self.now c.place-above-i.result _ c.if-i-self.true c.args.number _ refl at.above at.passed in
+    let at = c.place_above-i.ensures in
+    let both = order_here c.args.self.now c.place_above-i.result _ c.if-i-self.true c.args.number _ refl at.above at.passed in
     record { next = both.0; small = both.1 }
 
 pub returns-else-i-self : goal.returns-else-i-self
 returns-else-i-self c = record {
-  next = λ k above. sym (c.place-above-i.ensures.passed k above) ∙ all_passed c.args.self.now (λ t. look t k) c.place-above-i.result c.if-i-self.false;
+  next = λ k above. sym (c.place_above-i.ensures.passed k above) ∙ all_passed c.args.self.now (λ t. look t k) c.place_above-i.result c.if-i-self.false;
   small = tt;
 }

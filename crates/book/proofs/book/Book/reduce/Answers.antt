@@ -16,9 +16,9 @@ returns-then-units-order c =
     let at = c.in-Some.ensures in
     let one = leaving_one s c.args.number c.in-Some.located at c.args.units c.if-units-order.true in
     record {
-      rests = leaves_filled s c.args.number c.in-Some.located at c.args.units c.if-units-order.true _ c.close-up.ensures.orders;
-      count = omega (arith, one, c.close-up.ensures.count);
-      last = c.close-up.ensures.last;
+      rests = leaves_filled s c.args.number c.in-Some.located at c.args.units c.if-units-order.true _ c.close_up.ensures.orders;
+      count = omega (arith, one, c.close_up.ensures.count);
+      last = c.close_up.ensures.last;
     }
 
 pub returns-then-units-order-2 : goal.returns-then-units-order-2

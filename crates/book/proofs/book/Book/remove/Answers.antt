@@ -6,12 +6,12 @@ use Rattle.book.proofs.book.Book.remove.Goals as goal
 
 pub returns : goal.returns
 returns c =
-    let at = c.in-ok-place.ensures in
+    let at = c.in_ok-place.ensures in
     let is = resting_is c.args.self.now c.args.number _ at in
     record {
       answer = sym (ap units_of is);
       small = range_high _ (range_is c.args.self.now c.args.number _ at);
-      rests = leaves c.args.self.now c.args.number _ at _ c.close-up.ensures.orders;
-      count = omega (arith, ap one is, c.close-up.ensures.count);
-      last = c.close-up.ensures.last;
+      rests = leaves c.args.self.now c.args.number _ at _ c.close_up.ensures.orders;
+      count = omega (arith, ap one is, c.close_up.ensures.count);
+      last = c.close_up.ensures.last;
     }

@@ -3,7 +3,7 @@ use Rattle.book.specs.Resting.{open_units}
 use Rattle.book.proofs.Totals.{sum_in}
 use Rattle.book.proofs.Tables.{all_passed, total_is, sum_empty, sum_more, few_units}
 use Rattle.book.proofs.book.Book.total.Goals as goal
-use Rattle.book.proofs.book.Book.total.Goals.{in-Some, in-default}
+use Rattle.book.proofs.book.Book.total.Goals.{in-Some, in_default}
 
 pub loop-i-preserved : goal.loop-i-preserved
 loop-i-preserved c =
@@ -13,8 +13,8 @@ loop-i-preserved c =
           let few = few_units c.args.self.now c.loop-i.i _ c.loop-i-test.true w.in-Some.order w.in-Some.is in
           (omega (arith, c.loop-i.invariant.0, w.units-is, w.from-units.ensures, more), omega (arith, c.loop-i.invariant.1, w.units-is, w.from-units.ensures, few))
           )
-      | in-default w ↦ (
-          let same = sum_empty c.args.self.now c.loop-i.i _ c.loop-i-test.true w.in-default.is in
+      | in_default w ↦ (
+          let same = sum_empty c.args.self.now c.loop-i.i _ c.loop-i-test.true w.in_default.is in
           (omega (arith, c.loop-i.invariant.0, w.units-is, same), omega (arith, c.loop-i.invariant.1, w.units-is))
           )
     ]

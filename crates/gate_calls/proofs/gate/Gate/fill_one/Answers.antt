@@ -11,30 +11,30 @@ use Rattle.gate_calls.specs.Model.{state}
 use Rattle.gate_calls.proofs.Steps.{not_open, not-resting, tape_full_lem, not_filled, work_done}
 use Rattle.gate_calls.proofs.gate.Gate.fill_one.Goals as goal
 
-pub returns-then-not-is-open : goal.returns-then-not-is-open
-returns-then-not-is-open g c = not_open (state c.args.self.now) (g.M.Market.levels c.args.market.now) c.args.number (sym c.is-open.ensures ∙ c.if-not-is-open.true)
+pub returns-then-not-is_open : goal.returns-then-not-is_open
+returns-then-not-is_open g c = not_open (state c.args.self.now) (g.M.Market.levels c.args.market.now) c.args.number (sym c.is_open.ensures ∙ c.if-not-is_open.true)
 
-pub returns-in-default : goal.returns-in-default
-returns-in-default g c =
-    not-resting (state c.args.self.now) (g.M.Market.levels c.args.market.now) c.args.number (sym c.is-open.ensures ∙ c.if-not-is-open.false) (c.in-default.ensures.is ∙ ap (lookup (state c.args.self.now).order) (to_z-of_z w32 c.args.number c.ranges.number))
+pub returns-in_default : goal.returns-in_default
+returns-in_default g c =
+    not-resting (state c.args.self.now) (g.M.Market.levels c.args.market.now) c.args.number (sym c.is_open.ensures ∙ c.if-not-is_open.false) (c.in_default.ensures.is ∙ ap (lookup (state c.args.self.now).order) (to_z-of_z w32 c.args.number c.ranges.number))
 
-pub returns-then-is-tape-full : goal.returns-then-is-tape-full
-returns-then-is-tape-full g c =
-    tape_full_lem (state c.args.self.now) (g.M.Market.levels c.args.market.now) c.args.number (sym c.is-open.ensures ∙ c.if-not-is-open.false) c.in-Some.order (c.in-Some.ensures.is ∙ ap (lookup (state c.args.self.now).order) (to_z-of_z w32 c.args.number c.ranges.number))
-    (sym c.is-tape-full.ensures.value ∙ c.if-is-tape-full.true)
+pub returns-then-is_tape_full : goal.returns-then-is_tape_full
+returns-then-is_tape_full g c =
+    tape_full_lem (state c.args.self.now) (g.M.Market.levels c.args.market.now) c.args.number (sym c.is_open.ensures ∙ c.if-not-is_open.false) c.in-Some.order (c.in-Some.ensures.is ∙ ap (lookup (state c.args.self.now).order) (to_z-of_z w32 c.args.number c.ranges.number))
+    (sym c.is_tape_full.ensures.value ∙ c.if-is_tape_full.true)
 
-pub returns-in-err-fill : goal.returns-in-err-fill
-returns-in-err-fill g c =
+pub returns-in_err-fill : goal.returns-in_err-fill
+returns-in_err-fill g c =
     let p = err_from_is_err_and c.from-residual.result c.from-residual.ensures.1 in
     rw (p.1, p.2)
-    (not_filled (state c.args.self.now) (g.M.Market.levels c.args.market.now) c.args.number (sym c.is-open.ensures ∙ c.if-not-is-open.false) c.in-Some.order (c.in-Some.ensures.is ∙ ap (lookup (state c.args.self.now).order) (to_z-of_z w32 c.args.number c.ranges.number))
-    (sym c.is-tape-full.ensures.value ∙ c.if-is-tape-full.false) _ (sym c.quote.ensures ∙ ap (map_ok filling_of) c.in-err-fill.was))
+    (not_filled (state c.args.self.now) (g.M.Market.levels c.args.market.now) c.args.number (sym c.is_open.ensures ∙ c.if-not-is_open.false) c.in-Some.order (c.in-Some.ensures.is ∙ ap (lookup (state c.args.self.now).order) (to_z-of_z w32 c.args.number c.ranges.number))
+    (sym c.is_tape_full.ensures.value ∙ c.if-is_tape_full.false) _ (sym c.quote.ensures ∙ ap (map_ok filling_of) c.in_err-fill.was))
 
 pub settle-requires : goal.settle-requires
 settle-requires g c = record {
   held = sym (c.in-Some.ensures.is ∙ ap (lookup (state c.args.self.now).order) c.in-Some.ensures.named);
-  fits = sym c.in-ok-fill.ensures;
-  room = sym c.is-tape-full.ensures.value ∙ c.if-is-tape-full.false;
+  fits = sym c.in_ok-fill.ensures;
+  room = sym c.is_tape_full.ensures.value ∙ c.if-is_tape_full.false;
 }
 
 pub returns : goal.returns
@@ -43,9 +43,9 @@ returns g c =
     let m = g.M.Market.levels c.args.market.now in
     let t = state c.settle.new.self in
     let m' = g.M.Market.levels c.settle.new.market in
-    let f = c.in-ok-fill.fill in
+    let f = c.in_ok-fill.fill in
     let said = c.execution.ensures in
     let same : c.execution.result ≡ record { units = f.units; net = f.net } = λ i. record { units = said.0 i; net = said.1 i } in
     subst (λ (x : Execution). WorkStep s m c.args.number (told.Work x) (since s t) t m') (sym same)
-    (work_done s m c.args.number (sym c.is-open.ensures ∙ c.if-not-is-open.false) c.in-Some.order (c.in-Some.ensures.is ∙ ap (lookup s.order) (to_z-of_z w32 c.args.number c.ranges.number))
-    (sym c.is-tape-full.ensures.value ∙ c.if-is-tape-full.false) f t m' (sym c.in-ok-fill.ensures) c.settle.ensures)
+    (work_done s m c.args.number (sym c.is_open.ensures ∙ c.if-not-is_open.false) c.in-Some.order (c.in-Some.ensures.is ∙ ap (lookup s.order) (to_z-of_z w32 c.args.number c.ranges.number))
+    (sym c.is_tape_full.ensures.value ∙ c.if-is_tape_full.false) f t m' (sym c.in_ok-fill.ensures) c.settle.ensures)

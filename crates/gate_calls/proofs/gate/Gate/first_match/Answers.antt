@@ -19,7 +19,7 @@ loop-order-smaller g c = omega (arith, c.in-Some.ensures.next.above, c.in-Some.e
 
 pub loop-order-preserved : goal.loop-order-preserved
 loop-order-preserved g c =
-    idle_more (state c.args.self.now) (g.M.Market.levels c.args.market.now) c.loop-order.above c.in-Some.order c.in-default-quote.field-0 c.loop-order.invariant c.in-Some.ensures.next (sym c.in-default-quote.ensures)
+    idle_more (state c.args.self.now) (g.M.Market.levels c.args.market.now) c.loop-order.above c.in-Some.order c.in_default-quote.field-0 c.loop-order.invariant c.in-Some.ensures.next (sym c.in_default-quote.ensures)
 
 pub returns : goal.returns
-returns g c = idle_all (state c.args.self.now) (g.M.Market.levels c.args.market.now) c.loop-order.above c.loop-order.invariant c.in-default.ensures.next
+returns g c = idle_all (state c.args.self.now) (g.M.Market.levels c.args.market.now) c.loop-order.above c.loop-order.invariant c.in_default.ensures.next

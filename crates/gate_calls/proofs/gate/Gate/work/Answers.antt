@@ -10,9 +10,9 @@ use Rattle.gate_calls.proofs.gate.Gate.work.Goals as goal
 pub returns : goal.returns
 returns g c =
     let s = state c.args.self.now in
-    let t = state c.fill-one.new.self in
+    let t = state c.fill_one.new.self in
     let m = g.M.Market.levels c.args.market.now in
-    let m' = g.M.Market.levels c.fill-one.new.market in
+    let m' = g.M.Market.levels c.fill_one.new.market in
     let z = c.args.number in
-    let done = subst (λ (n : ℤ). WorkStep s m n (replied told.Work c.fill-one.result) (since s t) t m') (to_z-of_z w32 z c.ranges.number) c.fill-one.ensures in
+    let done = subst (λ (n : ℤ). WorkStep s m n (replied told.Work c.fill_one.result) (since s t) t m') (to_z-of_z w32 z c.ranges.number) c.fill_one.ensures in
     record { step = done; law = leads_on (asked.Work z) _ s m t m' done }

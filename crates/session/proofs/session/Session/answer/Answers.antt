@@ -10,6 +10,6 @@ returns-then-area-lt-CAPACITY g c =
 pub returns : goal.returns
 returns g c =
     record {
-      answer = taken_in c.write.result _ _ _ _ _ _ _ _ c.if-area-lt-CAPACITY.false c.final-answer.ensures c.respond.ensures.does c.write.ensures;
+      answer = taken_in c.write.result _ _ _ _ _ _ _ _ c.if-area-lt-CAPACITY.false c.final_answer.ensures c.respond.ensures.does c.write.ensures;
       law = c.respond.ensures.law;
     }

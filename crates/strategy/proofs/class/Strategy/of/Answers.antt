@@ -17,7 +17,7 @@ returns-in-Some c =
     long (listed c.args.legs.now) _ record { class = c.in-Some.field-0.class; width = c.in-Some.field-0.width; turned = false }
     c.as_slice.ensures.value c.in-Some.ensures
 
-pub returns-in-Some-long-form : goal.returns-in-Some-long-form
-returns-in-Some-long-form c =
-    long (listed c.args.legs.now) _ record { class = c.in-Some-long-form.field-0.class; width = c.in-Some-long-form.field-0.width; turned = true }
-    (c.as-slice-in-default.ensures.value ∙ c.flipped-legs.ensures) c.in-Some-long-form.ensures
+pub returns-in-Some-long_form : goal.returns-in-Some-long_form
+returns-in-Some-long_form c =
+    long (listed c.args.legs.now) _ record { class = c.in-Some-long_form.field-0.class; width = c.in-Some-long_form.field-0.width; turned = true }
+    (c.as_slice-in_default.ensures.value ∙ c.flipped_legs.ensures) c.in-Some-long_form.ensures

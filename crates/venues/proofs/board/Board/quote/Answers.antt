@@ -7,23 +7,23 @@ use Rattle.venues.proofs.board.Board.quote.Goals as goal
 pub invariant-of-self : goal.invariant-of-self
 invariant-of-self c =
     let b = c.args.self.now in
-    let read = c.in-ok-series.ensures.sound in
-    let within : c.in-ok-series.series < length b.quotes = omega arith in
-    (length-set b.quotes c.in-ok-series.series c.in-ok-series.quote ∙ b.size, (sound_set b.quotes c.in-ok-series.series c.in-ok-series.quote within read.1 b.ok, tt))
+    let read = c.in_ok-series.ensures.sound in
+    let within : c.in_ok-series.series < length b.quotes = omega arith in
+    (length-set b.quotes c.in_ok-series.series c.in_ok-series.quote ∙ b.size, (sound_set b.quotes c.in_ok-series.series c.in_ok-series.quote within read.1 b.ok, tt))
 
 pub returns : goal.returns
 returns c =
     let b = c.args.self.now in
     let f0 = c.ranges.series in
-    let f1 = c.ranges.bid-price in
-    let f2 = c.ranges.bid-size in
-    let f3 = c.ranges.offer-price in
-    let f4 = c.ranges.offer-size in
-    let read = simp to_z-of_z at c.in-ok-series.ensures.value in
-    let low = c.in-ok-series.ensures.sound.0 in
-    let within : c.in-ok-series.series < length b.quotes = omega arith in
+    let f1 = c.ranges.bid_price in
+    let f2 = c.ranges.bid_size in
+    let f3 = c.ranges.offer_price in
+    let f4 = c.ranges.offer_size in
+    let read = simp to_z-of_z at c.in_ok-series.ensures.value in
+    let low = c.in_ok-series.ensures.sound.0 in
+    let within : c.in_ok-series.series < length b.quotes = omega arith in
     record {
       answer = ap quote_answer read;
-      uncrossed = table_uncrossed (set b.quotes c.in-ok-series.series c.in-ok-series.quote) (sound_set b.quotes c.in-ok-series.series c.in-ok-series.quote within c.in-ok-series.ensures.sound.1 b.ok);
-      after = table_set b.quotes c.in-ok-series.series c.in-ok-series.quote within ∙ ap (quoted_levels (table_levels b.quotes)) read;
+      uncrossed = table_uncrossed (set b.quotes c.in_ok-series.series c.in_ok-series.quote) (sound_set b.quotes c.in_ok-series.series c.in_ok-series.quote within c.in_ok-series.ensures.sound.1 b.ok);
+      after = table_set b.quotes c.in_ok-series.series c.in_ok-series.quote within ∙ ap (quoted_levels (table_levels b.quotes)) read;
     }

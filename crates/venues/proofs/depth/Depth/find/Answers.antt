@@ -10,19 +10,19 @@ pub returns-then-at-price : goal.returns-then-at-price
 unfolding none
 returns-then-at-price c =
     let d = c.args.self.now in
-    stop_here c.args.side c.args.price d.levels d.count c.loop-i.i (omega arith) none c.loop-i.invariant c.loop-i-test.true (sym c.is-better.ensures ∙ c.if-not-is-better.true) c.if-at-price.true
+    stop_here c.args.side c.args.price d.levels d.count c.loop-i.i (omega arith) none c.loop-i.invariant c.loop-i-test.true (sym c.is_better.ensures ∙ c.if-not-is_better.true) c.if-at-price.true
 
 pub returns-else-at-price : goal.returns-else-at-price
 unfolding none
 returns-else-at-price c =
     let d = c.args.self.now in
-    stop_away c.args.side c.args.price d.levels d.count c.loop-i.i (omega arith) none c.loop-i.invariant c.loop-i-test.true (sym c.is-better.ensures ∙ c.if-not-is-better.true) c.if-at-price.false
+    stop_away c.args.side c.args.price d.levels d.count c.loop-i.i (omega arith) none c.loop-i.invariant c.loop-i-test.true (sym c.is_better.ensures ∙ c.if-not-is_better.true) c.if-at-price.false
 
 pub loop-i-preserved : goal.loop-i-preserved
 unfolding none
 loop-i-preserved c =
     let d = c.args.self.now in
-    place_more c.args.side c.args.price d.levels d.count c.loop-i.i (omega arith) none c.loop-i.invariant c.loop-i-test.true (sym c.is-better.ensures ∙ c.if-not-is-better.false)
+    place_more c.args.side c.args.price d.levels d.count c.loop-i.i (omega arith) none c.loop-i.invariant c.loop-i-test.true (sym c.is_better.ensures ∙ c.if-not-is_better.false)
 
 pub returns : goal.returns
 returns c =

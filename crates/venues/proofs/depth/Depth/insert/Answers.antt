@@ -8,7 +8,7 @@ invariant-of-self c =
     let d = c.args.self.now in
     let near : c.args.i ≤ d.count = omega (arith, simp length-take at c.requires.place) in
     let room : d.count < 8 = omega (arith, simp length-take at c.requires.room) in
-    let long = length-put d.levels c.rotate-right.new.self d.count c.args.i (8 - c.args.i) (omega arith) c.rotate-right.ensures.len in
+    let long = length-put d.levels c.rotate_right.new.self d.count c.args.i (8 - c.args.i) (omega arith) c.rotate_right.ensures.len in
     (length-set _ c.args.i c.args.level ∙ long ∙ d.size, (omega arith, tt))
 
 pub returns : goal.returns
@@ -16,5 +16,5 @@ returns c =
     let d = c.args.self.now in
     let near : c.args.i ≤ d.count = omega (arith, simp length-take at c.requires.place) in
     let room : d.count < 8 = omega (arith, simp length-take at c.requires.room) in
-    let turned = c.rotate-right.ensures in
-    inserted_front d.levels c.rotate-right.new.self d.count c.args.i (8 - c.args.i) (omega arith) turned.len (omega arith) near turned.by_index.1 c.args.level
+    let turned = c.rotate_right.ensures in
+    inserted_front d.levels c.rotate_right.new.self d.count c.args.i (8 - c.args.i) (omega arith) turned.len (omega arith) near turned.by_index.1 c.args.level

@@ -7,11 +7,11 @@ pub invariant-of-self : goal.invariant-of-self
 invariant-of-self c =
     let d = c.args.self.now in
     let near : c.args.i < d.count = omega (arith, simp length-take at c.requires) in
-    (length-put d.levels c.rotate-left.new.self d.count c.args.i (8 - c.args.i) (omega arith) c.rotate-left.ensures.len ∙ d.size, (omega arith, tt))
+    (length-put d.levels c.rotate_left.new.self d.count c.args.i (8 - c.args.i) (omega arith) c.rotate_left.ensures.len ∙ d.size, (omega arith, tt))
 
 pub returns : goal.returns
 returns c =
     let d = c.args.self.now in
     let near : c.args.i < d.count = omega (arith, simp length-take at c.requires) in
-    let turned = c.rotate-left.ensures in
-    removed_front d.levels c.rotate-left.new.self d.count c.args.i (8 - c.args.i) (omega arith) turned.len (omega arith) near turned.by_index.0
+    let turned = c.rotate_left.ensures in
+    removed_front d.levels c.rotate_left.new.self d.count c.args.i (8 - c.args.i) (omega arith) turned.len (omega arith) near turned.by_index.0

@@ -8,19 +8,19 @@ use Rattle.venues.specs.Ranks.{one_bid, one_offer}
 use Rattle.venues.proofs.Sizes.{ordered_sized, bids_sized, offers_sized, blocked_answer, blocked_after, free_answer, free_after, free_meets, left_both, bid_back, offer_back, answer_at, after_at}
 use Rattle.venues.proofs.series.SeriesDepth.level.Goals as goal
 
-pub returns-then-is-blocked : goal.returns-then-is-blocked
-returns-then-is-blocked c =
+pub returns-then-is_blocked : goal.returns-then-is_blocked
+returns-then-is_blocked c =
     let r = c.args.self.now in
-    let met = ap (blocked Bid c.args.price c.args.size) (sym c.first.ensures) ∙ sym c.is-blocked.ensures ∙ c.if-is-blocked.true in
+    let met = ap (blocked Bid c.args.price c.args.size) (sym c.first.ensures) ∙ sym c.is_blocked.ensures ∙ c.if-is_blocked.true in
     record {
       answer = answer_at (series_levels r) c.args.price c.args.size c.args.side Bid c.in-Bid.is _ (blocked_answer Bid c.args.price c.args.size (depth_levels r.bids) (depth_levels r.offers) met);
       after = after_at (series_levels r) c.args.price c.args.size c.args.side Bid c.in-Bid.is _ (bid_back (series_levels r) _ (blocked_after Bid c.args.price c.args.size (depth_levels r.bids) (depth_levels r.offers) met));
     }
 
-pub returns-else-is-blocked : goal.returns-else-is-blocked
-returns-else-is-blocked c =
+pub returns-else-is_blocked : goal.returns-else-is_blocked
+returns-else-is_blocked c =
     let r = c.args.self.now in
-    let free = ap (blocked Bid c.args.price c.args.size) (sym c.first.ensures) ∙ sym c.is-blocked.ensures ∙ c.if-is-blocked.false in
+    let free = ap (blocked Bid c.args.price c.args.size) (sym c.first.ensures) ∙ sym c.is_blocked.ensures ∙ c.if-is_blocked.false in
     record {
       answer = answer_at (series_levels r) c.args.price c.args.size c.args.side Bid c.in-Bid.is _ (free_answer Bid c.args.price c.args.size (depth_levels r.bids) (depth_levels r.offers) c.set.result free c.set.ensures.answer);
       after = after_at (series_levels r) c.args.price c.args.size c.args.side Bid c.in-Bid.is _ (one_bid (series_levels r) _ _ (free_after Bid c.args.price c.args.size (depth_levels r.bids) (depth_levels r.offers) (depth_levels c.set.new.self) free c.set.ensures.after) refl);
@@ -29,7 +29,7 @@ returns-else-is-blocked c =
 pub invariant-of-self : goal.invariant-of-self
 invariant-of-self c =
     let r = c.args.self.now in
-    let free = ap (blocked Bid c.args.price c.args.size) (sym c.first.ensures) ∙ sym c.is-blocked.ensures ∙ c.if-is-blocked.false in (
+    let free = ap (blocked Bid c.args.price c.args.size) (sym c.first.ensures) ∙ sym c.is_blocked.ensures ∙ c.if-is_blocked.false in (
       left_both (λ ls. ordered Bid ls ≡ true) Bid c.args.price c.args.size (depth_levels r.bids) (depth_levels c.set.new.self) c.set.ensures.after r.falling (ordered_sized Bid c.args.price c.args.size (depth_levels r.bids) c.requires.price.0 c.requires.price.1 c.requires.size r.falling),
       (
         r.rising,
@@ -37,19 +37,19 @@ invariant-of-self c =
       ),
     )
 
-pub returns-then-is-blocked-2 : goal.returns-then-is-blocked-2
-returns-then-is-blocked-2 c =
+pub returns-then-is_blocked-2 : goal.returns-then-is_blocked-2
+returns-then-is_blocked-2 c =
     let r = c.args.self.now in
-    let met = ap (blocked Offer c.args.price c.args.size) (sym c.first-in-Offer.ensures) ∙ sym c.is-blocked-in-Offer.ensures ∙ c.if-is-blocked-2.true in
+    let met = ap (blocked Offer c.args.price c.args.size) (sym c.first-in-Offer.ensures) ∙ sym c.is_blocked-in-Offer.ensures ∙ c.if-is_blocked-2.true in
     record {
       answer = answer_at (series_levels r) c.args.price c.args.size c.args.side Offer c.in-Offer.is _ (blocked_answer Offer c.args.price c.args.size (depth_levels r.offers) (depth_levels r.bids) met);
       after = after_at (series_levels r) c.args.price c.args.size c.args.side Offer c.in-Offer.is _ (offer_back (series_levels r) _ (blocked_after Offer c.args.price c.args.size (depth_levels r.offers) (depth_levels r.bids) met));
     }
 
-pub returns-else-is-blocked-2 : goal.returns-else-is-blocked-2
-returns-else-is-blocked-2 c =
+pub returns-else-is_blocked-2 : goal.returns-else-is_blocked-2
+returns-else-is_blocked-2 c =
     let r = c.args.self.now in
-    let free = ap (blocked Offer c.args.price c.args.size) (sym c.first-in-Offer.ensures) ∙ sym c.is-blocked-in-Offer.ensures ∙ c.if-is-blocked-2.false in
+    let free = ap (blocked Offer c.args.price c.args.size) (sym c.first-in-Offer.ensures) ∙ sym c.is_blocked-in-Offer.ensures ∙ c.if-is_blocked-2.false in
     record {
       answer = answer_at (series_levels r) c.args.price c.args.size c.args.side Offer c.in-Offer.is _ (free_answer Offer c.args.price c.args.size (depth_levels r.offers) (depth_levels r.bids) c.set-in-Offer.result free c.set-in-Offer.ensures.answer);
       after = after_at (series_levels r) c.args.price c.args.size c.args.side Offer c.in-Offer.is _ (one_offer (series_levels r) _ _ (free_after Offer c.args.price c.args.size (depth_levels r.offers) (depth_levels r.bids) (depth_levels c.set-in-Offer.new.self) free c.set-in-Offer.ensures.after) refl);
@@ -58,7 +58,7 @@ returns-else-is-blocked-2 c =
 pub invariant-of-self-in-Offer : goal.invariant-of-self-in-Offer
 invariant-of-self-in-Offer c =
     let r = c.args.self.now in
-    let free = ap (blocked Offer c.args.price c.args.size) (sym c.first-in-Offer.ensures) ∙ sym c.is-blocked-in-Offer.ensures ∙ c.if-is-blocked-2.false in (
+    let free = ap (blocked Offer c.args.price c.args.size) (sym c.first-in-Offer.ensures) ∙ sym c.is_blocked-in-Offer.ensures ∙ c.if-is_blocked-2.false in (
       r.falling,
       (
         left_both (λ ls. ordered Offer ls ≡ true) Offer c.args.price c.args.size (depth_levels r.offers) (depth_levels c.set-in-Offer.new.self) c.set-in-Offer.ensures.after r.rising (ordered_sized Offer c.args.price c.args.size (depth_levels r.offers) c.requires.price.0 c.requires.price.1 c.requires.size r.rising),

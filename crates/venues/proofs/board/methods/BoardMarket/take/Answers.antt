@@ -17,10 +17,10 @@ returns-then-series-ge-SERIES c =
       same = refl;
     }
 
-pub returns-in-err-rest : goal.returns-in-err-rest
-returns-in-err-rest c =
+pub returns-in_err-rest : goal.returns-in_err-rest
+returns-in_err-rest c =
     let b = c.args.self.now in
-    let e = ap (λ o. taken_level o c.args.n) (sym c.side.ensures) ∙ sym c.take-level.ensures ∙ c.in-err-rest.was in
+    let e = ap (λ o. taken_level o c.args.n) (sym c.side.ensures) ∙ sym c.take_level.ensures ∙ c.in_err-rest.was in
     let no = taken_err (side_of (get_or b.quotes c.args.series no_quote) c.args.side) c.args.n _ e in
     let p = err_from_is_err_and c.from-residual.result c.from-residual.ensures.1 in
     record {
@@ -33,7 +33,7 @@ pub invariant-of-self : goal.invariant-of-self
 invariant-of-self c =
     let b = c.args.self.now in
     let within : c.args.series < length b.quotes = omega arith in
-    let e = ap (λ o. taken_level o c.args.n) (sym c.side.ensures) ∙ sym c.take-level.ensures ∙ c.in-ok-rest.was in
+    let e = ap (λ o. taken_level o c.args.n) (sym c.side.ensures) ∙ sym c.take_level.ensures ∙ c.in_ok-rest.was in
     let ok = ap sound c.with.ensures ∙ sound_taken (get_or b.quotes c.args.series no_quote) c.args.side c.args.n _ (b.ok c.args.series) e in
     (length-set b.quotes c.args.series c.with.result ∙ b.size, (sound_set b.quotes c.args.series c.with.result within ok b.ok, tt))
 
@@ -41,7 +41,7 @@ pub returns : goal.returns
 returns c =
     let b = c.args.self.now in
     let within : c.args.series < length b.quotes = omega arith in
-    let e = ap (λ o. taken_level o c.args.n) (sym c.side.ensures) ∙ sym c.take-level.ensures ∙ c.in-ok-rest.was in
+    let e = ap (λ o. taken_level o c.args.n) (sym c.side.ensures) ∙ sym c.take_level.ensures ∙ c.in_ok-rest.was in
     record {
       answer = sym (done_answer b.quotes c.args.series c.args.side c.args.n _ e);
       after = ap (λ q. table_levels (set b.quotes c.args.series q)) c.with.ensures ∙ done_after b.quotes c.args.series c.args.side c.args.n _ e within;
