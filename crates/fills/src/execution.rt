@@ -21,12 +21,12 @@ pub fn execute<M: Market>(
     remaining: u16,
     buffers: Buffers,
 ) -> Result<Fill, GateFault>
-    ensures answer { result ≡ quoted (levels market.old) order.now remaining buffers }
-    ensures fill { IfOk result (Filled (levels market.old) order.now remaining) }
-    ensures law { (turned : List Leg) → Long order.now.class order.now.width turned → FillLaw (levels market.old) order.now remaining turned buffers result }
-    ensures low { LowBuyFills (levels market.old) order.now remaining buffers result }
-    ensures after { levels market.new ≡ executed (levels market.old) order.now result }
-    ensures same { count market.new ≡ count market.old }
+    ensures answer { result ≡ quoted (M.levels market.old) order.now remaining buffers }
+    ensures fill { IfOk result (Filled (M.levels market.old) order.now remaining) }
+    ensures law { (turned : List Leg) → Long order.now.class order.now.width turned → FillLaw (M.levels market.old) order.now remaining turned buffers result }
+    ensures low { LowBuyFills (M.levels market.old) order.now remaining buffers result }
+    ensures after { M.levels market.new ≡ executed (M.levels market.old) order.now result }
+    ensures same { M.count market.new ≡ M.count market.old }
 {
     let fill = quotation(market, order, remaining, buffers)?;
     let side = taken_side(order.side);

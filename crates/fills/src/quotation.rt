@@ -32,7 +32,7 @@ pub(crate) fn taken_side(side: Side) -> QuoteSide
 
 // The first level that a leg's net price uses; without one, nothing at price 0.
 fn used_level<M: Market>(market: &M, leg: &TradedLeg, net: QuoteSide) -> Level
-    ensures { result ≡ used_level (levels market.now) net leg.now }
+    ensures { result ≡ used_level (M.levels market.now) net leg.now }
 {
     match market.best(leg.series as usize, leg.used_side(net)) {
         Some((price, size)) => Level { price, size },
@@ -43,7 +43,7 @@ fn used_level<M: Market>(market: &M, leg: &TradedLeg, net: QuoteSide) -> Level
 // The first leg, from 1, whose level lacks its ratio.
 fn lacking_leg<M: Market>(market: &M, legs: &[TradedLeg], net: QuoteSide) -> Option<u8>
     requires { length legs.now ≤ 4 }
-    ensures { result ≡ lacking (levels market.now) net legs.now }
+    ensures { result ≡ lacking (M.levels market.now) net legs.now }
 {
     let mut place = 1;
     for leg in legs {
@@ -58,7 +58,7 @@ fn lacking_leg<M: Market>(market: &M, legs: &[TradedLeg], net: QuoteSide) -> Opt
 // As many of some units as every leg's level has.
 fn units_allowed<M: Market>(market: &M, legs: &[TradedLeg], net: QuoteSide, units: u16) -> u16
     requires { ratios_in_range legs.now ≡ true }
-    ensures { result ≡ allowed (levels market.now) net units legs.now }
+    ensures { result ≡ allowed (M.levels market.now) net units legs.now }
 {
     let mut least = units;
     for leg in legs {
@@ -82,7 +82,7 @@ fn signed_ratio(leg: &TradedLeg) -> i8
 
 fn leg_fill<M: Market>(market: &M, leg: &TradedLeg, net: QuoteSide) -> LegFill
     requires { leg.now.ratio ≤ 12 }
-    ensures { result ≡ leg_fill (levels market.now) net leg.now }
+    ensures { result ≡ leg_fill (M.levels market.now) net leg.now }
 {
     LegFill {
         series: leg.series,
@@ -98,7 +98,7 @@ fn fill_each<M: Market, const N: usize>(
     net: QuoteSide,
 ) -> [LegFill; N]
     requires { ratios_in_range legs.now ≡ true }
-    ensures { result ≡ map (leg_fill (levels market.now) net) legs.now }
+    ensures { result ≡ map (leg_fill (M.levels market.now) net) legs.now }
 {
     let mut fills = [LegFill {
         series: 0,
@@ -114,7 +114,7 @@ fn fill_each<M: Market, const N: usize>(
 
 fn leg_fills<M: Market>(market: &M, legs: &Legs<TradedLeg>, net: QuoteSide) -> Legs<LegFill>
     requires { ratios_in_range (listed legs.now) ≡ true }
-    ensures { result ≡ each_leg (leg_fill (levels market.now) net) legs.now }
+    ensures { result ≡ each_leg (leg_fill (M.levels market.now) net) legs.now }
 {
     match legs {
         Legs::Two(legs) => Legs::Two(fill_each(market, legs, net)),
@@ -147,7 +147,7 @@ fn is_prevented(order: &TurnedOrder, net: i32, buffers: Buffers) -> bool
 
 // The fill at a net price.
 fn fill_at<M: Market>(market: &M, order: &TurnedOrder, remaining: u16, net: i32) -> Fill
-    ensures { result ≡ fill_at (levels market.now) order.now remaining net }
+    ensures { result ≡ fill_at (M.levels market.now) order.now remaining net }
 {
     let legs = order.legs.as_legs();
     let side = taken_side(order.side);
@@ -165,10 +165,10 @@ pub fn quotation<M: Market>(
     remaining: u16,
     buffers: Buffers,
 ) -> Result<Fill, GateFault>
-    ensures answer { result ≡ quoted (levels market.now) order.now remaining buffers }
-    ensures fill { IfOk result (Filled (levels market.now) order.now remaining) }
-    ensures law { (turned : List Leg) → Long order.now.class order.now.width turned → FillLaw (levels market.now) order.now remaining turned buffers result }
-    ensures low { LowBuyFills (levels market.now) order.now remaining buffers result }
+    ensures answer { result ≡ quoted (M.levels market.now) order.now remaining buffers }
+    ensures fill { IfOk result (Filled (M.levels market.now) order.now remaining) }
+    ensures law { (turned : List Leg) → Long order.now.class order.now.width turned → FillLaw (M.levels market.now) order.now remaining turned buffers result }
+    ensures low { LowBuyFills (M.levels market.now) order.now remaining buffers result }
 {
     let legs = order.legs.as_legs();
     let side = taken_side(order.side);

@@ -92,23 +92,23 @@ impl<'a> Gate<'a> {
 
     // Works an order: one fill, one line of the tape.
     pub fn work<M: Market>(&mut self, number: i32, market: &mut M) -> Result<Execution, GateFault>
-        ensures step { WorkStep (state self.old) (levels market.old) number (replied told.Work result) (since (state self.old) (state self.new)) (state self.new) (levels market.new) }
-        ensures law { LeadsOn (asked.Work number) (replied told.Work result) (state self.old) (levels market.old) (state self.new) (levels market.new) }
+        ensures step { WorkStep (state self.old) (M.levels market.old) number (replied told.Work result) (since (state self.old) (state self.new)) (state self.new) (M.levels market.new) }
+        ensures law { LeadsOn (asked.Work number) (replied told.Work result) (state self.old) (M.levels market.old) (state self.new) (M.levels market.new) }
     {
         self.fill_one(number, market)
     }
 
     // Fills the lowest-numbered order that work would fill, again and again.
     pub fn sweep<M: Market>(&mut self, market: &mut M) -> Result<Tally, GateFault>
-        ensures step { SweepStep (state self.old) (levels market.old) (replied told.Sweep result) (since (state self.old) (state self.new)) (state self.new) (levels market.new) }
-        ensures law { LeadsOn asked.Sweep (replied told.Sweep result) (state self.old) (levels market.old) (state self.new) (levels market.new) }
+        ensures step { SweepStep (state self.old) (M.levels market.old) (replied told.Sweep result) (since (state self.old) (state self.new)) (state self.new) (M.levels market.new) }
+        ensures law { LeadsOn asked.Sweep (replied told.Sweep result) (state self.old) (M.levels market.old) (state self.new) (M.levels market.new) }
     {
         self.fill_book(market)
     }
 
     // The net market of some legs as entered, in any phase.
     pub fn net<M: Market>(&self, legs: LegList, market: &M) -> Result<TwoSided<i32>, GateFault>
-        ensures { result ≡ netting (state self.now) legs (levels market.now) }
+        ensures { result ≡ netting (state self.now) legs (M.levels market.now) }
     {
         let legs = legs.checked()?.as_legs();
         let _ = self.table.resolve(&legs)?;
@@ -117,7 +117,7 @@ impl<'a> Gate<'a> {
 
     // Makes any of the seven calls.
     pub fn apply<M: Market>(&mut self, call: Call, market: &mut M) -> Reply
-        ensures { LeadsOn call result (state self.old) (levels market.old) (state self.new) (levels market.new) }
+        ensures { LeadsOn call result (state self.old) (M.levels market.old) (state self.new) (M.levels market.new) }
     {
         match call {
             Call::Series(terms) => match self.series(terms) {

@@ -88,7 +88,7 @@ impl Gate<'_> {
         order: &RestingOrder,
         market: &M,
     ) -> Result<Fill, GateFault>
-        ensures { map_ok filling_of result ≡ quoted_for (state self.now) (levels market.now) order.now }
+        ensures { map_ok filling_of result ≡ quoted_for (state self.now) (M.levels market.now) order.now }
     {
         quotation(market, &order.terms, order.remaining, self.in_force())
     }
@@ -96,9 +96,9 @@ impl Gate<'_> {
     // Takes a fill from the market and from its order, and writes its line.
     pub(super) fn settle<M: Market>(&mut self, order: RestingOrder, fill: Fill, market: &mut M)
         requires held { (state self.old).order order.number ≡ Some (resting_of order) }
-        requires fits { quoted_for (state self.old) (levels market.old) order ≡ Ok (filling_of fill) }
+        requires fits { quoted_for (state self.old) (M.levels market.old) order ≡ Ok (filling_of fill) }
         requires room { tape_full (state self.old) ≡ false }
-        ensures { Settles (state self.old) (levels market.old) (line_with (state self.old) order fill) (state self.new) (levels market.new) }
+        ensures { Settles (state self.old) (M.levels market.old) (line_with (state self.old) order fill) (state self.new) (M.levels market.new) }
     {
         let side = taken_side(order.terms.side);
         // Not refused: every leg has these units in its first level.
@@ -113,7 +113,7 @@ impl Gate<'_> {
         number: i32,
         market: &mut M,
     ) -> Result<Execution, GateFault>
-        ensures { WorkStep (state self.old) (levels market.old) number (replied told.Work result) (since (state self.old) (state self.new)) (state self.new) (levels market.new) }
+        ensures { WorkStep (state self.old) (M.levels market.old) number (replied told.Work result) (since (state self.old) (state self.new)) (state self.new) (M.levels market.new) }
     {
         if !self.is_open() {
             return Err(GateFault::Phase);
@@ -131,7 +131,7 @@ impl Gate<'_> {
 
     // The lowest-numbered order that work would fill, a full tape set aside, with its fill.
     fn first_match<M: Market>(&self, market: &M) -> Option<MatchedOrder>
-        ensures { FirstMatch (state self.now) (levels market.now) result }
+        ensures { FirstMatch (state self.now) (M.levels market.now) result }
     {
         let mut above = 0;
         while let Some(order) = self.book.next_above(above) {
@@ -144,7 +144,7 @@ impl Gate<'_> {
     }
 
     pub(super) fn fill_book<M: Market>(&mut self, market: &mut M) -> Result<Tally, GateFault>
-        ensures { SweepStep (state self.old) (levels market.old) (replied told.Sweep result) (since (state self.old) (state self.new)) (state self.new) (levels market.new) }
+        ensures { SweepStep (state self.old) (M.levels market.old) (replied told.Sweep result) (since (state self.old) (state self.new)) (state self.new) (M.levels market.new) }
     {
         if !self.is_open() {
             return Err(GateFault::Phase);
@@ -154,7 +154,7 @@ impl Gate<'_> {
 
     // Fills the lowest-numbered order that would fill, again and again.
     fn fill_all<M: Market>(&mut self, market: &mut M) -> Tally
-        ensures { Sweeping (state self.old) (levels market.old) result (state self.new) (levels market.new) }
+        ensures { Sweeping (state self.old) (M.levels market.old) result (state self.new) (M.levels market.new) }
     {
         let mut lines = 0;
         let mut units = 0;

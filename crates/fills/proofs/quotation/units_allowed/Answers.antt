@@ -2,8 +2,8 @@ use Rattle.std.proofs.Common.{arith}
 use Rattle.fills.proofs.Steps.{units_more, units_all, ratio_some, ratio_more}
 use Rattle.fills.proofs.quotation.units_allowed.Goals as goal
 
-pub nonzero-div-most : goal.nonzero-div-most
-nonzero-div-most g c =
+pub nonzero_div-most : goal.nonzero_div-most
+nonzero_div-most g c =
     let r = ratio_some (g.M.Market.levels c.args.market.now) c.args.net c.args.legs.now c.loop-leg.leg-index c.loop-leg-test.true c.loop-leg.invariant.0 in
     omega arith
 

@@ -4,8 +4,8 @@ use Rattle.book.proofs.Closing.{closed, length_closed}
 use Rattle.book.proofs.Looks.{orderly_removed}
 use Rattle.book.proofs.book.Book.close_up.Goals as goal
 
-pub invariant-of-self : goal.invariant-of-self
-invariant-of-self c =
+pub invariant_of-self : goal.invariant_of-self
+invariant_of-self c =
     let s = c.args.self.now in
     let f : s.used ≤ length s.places = omega arith in (
       length_closed s.places s.used c.args.place c.requires f _ c.rotate_left.ensures.after ∙ s.sized,

@@ -4,8 +4,8 @@ use Rattle.std.proofs.lemmas.Bool.Decides.{nat_tests}
 use Rattle.book.proofs.Tables.{orderly_more, look_more}
 use Rattle.book.proofs.book.Book.insert.Goals as goal
 
-pub invariant-of-self : goal.invariant-of-self
-invariant-of-self c =
+pub invariant_of-self : goal.invariant_of-self
+invariant_of-self c =
     let s = c.args.self.now in
     let units = c.units-remaining in (
       length-set s.places s.used _ ∙ s.sized,

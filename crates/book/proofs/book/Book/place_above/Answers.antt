@@ -9,11 +9,11 @@ use Rattle.book.proofs.book.Book.place_above.Goals.{in_default-via-in-Some+else-
 pub loop-low-init : goal.loop-low-init
 loop-low-init c = (omega arith, omega arith, λ k lt. refl, λ o lt e. absurd (omega (arith, length-in_use c.args.self.now)))
 
-pub overflow-add-middle : goal.overflow-add-middle
-overflow-add-middle c = omega (arith, c.loop-low.invariant.1, c.args.self.now.few)
+pub overflow_add-middle : goal.overflow_add-middle
+overflow_add-middle c = omega (arith, c.loop-low.invariant.1, c.args.self.now.few)
 
-pub offset-bounds-self-middle : goal.offset-bounds-self-middle
-offset-bounds-self-middle c = omega (arith, (halfway c.loop-low.low c.loop-low.high c.loop-low-test.true).1, c.loop-low.invariant.1, c.args.self.now.few)
+pub offset_bounds-self-middle : goal.offset_bounds-self-middle
+offset_bounds-self-middle c = omega (arith, (halfway c.loop-low.low c.loop-low.high c.loop-low-test.true).1, c.loop-low.invariant.1, c.args.self.now.few)
 
 pub listed : goal.listed
 listed c = omega (arith, (halfway c.loop-low.low c.loop-low.high c.loop-low-test.true).1, c.loop-low.invariant.1, c.args.self.now.few, c.args.self.now.sized)
@@ -30,8 +30,8 @@ loop-low-preserved-then-order-number c =
       above_here c.args.self.now _ _ (omega (arith, half.1, c.loop-low.invariant.1)) c.args.number c.in-Some.order c.in-Some.is c.if-order-number.true,
     )
 
-pub overflow-add-low : goal.overflow-add-low
-overflow-add-low c = omega (arith, (halfway c.loop-low.low c.loop-low.high c.loop-low-test.true).1, c.loop-low.invariant.1, c.args.self.now.few)
+pub overflow_add-low : goal.overflow_add-low
+overflow_add-low c = omega (arith, (halfway c.loop-low.low c.loop-low.high c.loop-low-test.true).1, c.loop-low.invariant.1, c.args.self.now.few)
 
 pub loop-low-preserved : goal.loop-low-preserved
 loop-low-preserved c =

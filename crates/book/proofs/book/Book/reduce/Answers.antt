@@ -3,8 +3,8 @@ use Rattle.std.proofs.lemmas.List.{length-set}
 use Rattle.book.proofs.Changes.{leaving_one, leaving_none, leaves_filled, stays, orderly_less, unchanged}
 use Rattle.book.proofs.book.Book.reduce.Goals as goal
 
-pub invariant-of-self : goal.invariant-of-self
-invariant-of-self c =
+pub invariant_of-self : goal.invariant_of-self
+invariant_of-self c =
     let s = c.args.self.now in (
       length-set s.places c.in-Some.located.0 _ ∙ s.sized,
       (s.few, (s.numbered, (orderly_less s c.args.number c.in-Some.located c.in-Some.ensures c.args.units c.if-units-order-2.true, tt))),

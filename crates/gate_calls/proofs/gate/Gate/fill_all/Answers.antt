@@ -32,13 +32,13 @@ settle-requires g c =
     let first = c.in-Some.ensures in
     record { held = first.held; fits = first.fits; room = sym c.is_tape_full.ensures.value ∙ c.if-is_tape_full.false }
 
-pub overflow-add-lines : goal.overflow-add-lines
-overflow-add-lines g c =
+pub overflow_add-lines : goal.overflow_add-lines
+overflow_add-lines g c =
     let less = few _ _ _ _ _ _ c.loop-first.invariant (sym c.is_tape_full.ensures.value ∙ c.if-is_tape_full.false) in
     omega (arith, less)
 
-pub overflow-add-units : goal.overflow-add-units
-overflow-add-units g c =
+pub overflow_add-units : goal.overflow_add-units
+overflow_add-units g c =
     let less = few _ _ _ _ _ _ c.loop-first.invariant (sym c.is_tape_full.ensures.value ∙ c.if-is_tape_full.false) in
     omega (arith, less, c.loop-first.invariant.small, c.from-units.ensures)
 
