@@ -1,5 +1,5 @@
 -- The strikes, the kind and the expiry of a long form can be read off its legs, in whatever order they stand.
-use Rattle.std.proofs.Common.{◌≡◌, ℕ, ◌+◌, ◌-◌, ◌/◌, ◌<◌, ◌≤◌, min, max, List, [], ◌∷◌, refl, arith, rules}
+use Rattle.std.proofs.Common.{◌≡◌, ℕ, ◌+◌, ◌-◌, ◌/◌, ◌<◌, ◌≤◌, min, max, List, [], ◌∷◌, refl, arith}
 use Rattle.std.specs.List.{AllByRecursion as All}
 use Rattle.strategy.specs.declared.leg.Kind.{Kind}
 use Rattle.strategy.specs.declared.leg.Kind.TheVariants.{Call, Put}

@@ -13,11 +13,10 @@ use Rattle.strategy.specs.declared.class.Class.{Class}
 use Rattle.strategy.specs.declared.class.Class.TheVariants.{Bought, Vertical, Calendar, Butterfly, BoxSpread, Other}
 use Rattle.strategy.specs.declared.class.Strategy.{Strategy}
 use Rattle.strategy.specs.Legs.{opposite, flipped, turned_legs}
-use Rattle.strategy.specs.Reordering.{Reordered}
-use Rattle.strategy.specs.Forms.{vertical, calendar, butterfly, box, IsBought, IsCalendar, Long, Classified}
+use Rattle.strategy.specs.Forms.{vertical, calendar, butterfly, box, Long, Classified}
 use Rattle.strategy.specs.Payoff.{signed, signed_sum, leg_paid, payoff}
 use Rattle.strategy.proofs.Excluded.{length-vertical, length-calendar, length-butterfly, length-box}
-use Rattle.strategy.proofs.Worth.{Worth, Between, sum_reordered, vertical_worth, calendar_worth, butterfly_worth, box_worth}
+use Rattle.strategy.proofs.Worth.{Worth, sum_reordered, vertical_worth, calendar_worth, butterfly_worth, box_worth}
 
 -- how many more legs are bought than sold
 abbrev one : Leg → ℕ

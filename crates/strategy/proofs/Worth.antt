@@ -1,5 +1,5 @@
 -- What the long forms are worth at settlement: but for all bought, from 0 to the width, and both are reached.
-use Rattle.std.proofs.Common.{◌≡◌, ℕ, ◌+◌, ◌<◌, ◌≤◌, ◌⊎◌, List, [], ◌∷◌, ℤ, pos, ◌+ℤ◌, ◌≤ℤ◌, refl, inl, inr, arith}
+use Rattle.std.proofs.Common.{◌≡◌, ℕ, ◌+◌, List, [], ◌∷◌, ℤ, pos, ◌+ℤ◌, ◌≤ℤ◌, inl, inr, arith}
 use Rattle.std.proofs.lemmas.Int.{ints}
 use Rattle.strategy.specs.declared.leg.Kind.{Kind}
 use Rattle.strategy.specs.declared.leg.Kind.TheVariants.{Call, Put}

@@ -1,4 +1,4 @@
-use Rattle.std.proofs.Common.{ltb, refl, arith}
+use Rattle.std.proofs.Common.{ltb, refl}
 use Rattle.std.proofs.lemmas.Bool.Decides.{Decides-like, Decides-and, Decides-ltb}
 use Rattle.strategy.proofs.Span.{calendar_read}
 use Rattle.strategy.proofs.class.is_calendar.Goals as goal

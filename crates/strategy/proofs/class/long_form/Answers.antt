@@ -1,4 +1,4 @@
-use Rattle.std.proofs.Common.{◌≡◌, ◌<◌, length, inl, inr, rules}
+use Rattle.std.proofs.Common.{◌<◌, length, inl, inr, rules}
 use Rattle.std.proofs.lemmas.Bool.Decides.{not_from_Decides}
 use Rattle.strategy.proofs.Excluded.{other_count}
 use Rattle.strategy.proofs.Short.{two_are, three_are, four_are, no_leg}

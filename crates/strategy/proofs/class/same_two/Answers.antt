@@ -1,4 +1,3 @@
-use Rattle.std.proofs.Common.{[], ◌∷◌}
 use Rattle.std.proofs.lemmas.Bool.Decides.{Decides-like, Decides-or, Decides-and}
 use Rattle.strategy.proofs.Reorder.{only_from, only_of, two_from, two_of}
 use Rattle.strategy.proofs.class.same_two.Goals as goal

@@ -1,4 +1,4 @@
-use Rattle.std.proofs.Common.{List, [], ◌∷◌, refl, arith}
+use Rattle.std.proofs.Common.{List, [], ◌∷◌, arith}
 use Rattle.strategy.specs.declared.leg.Leg.{Leg}
 use Rattle.strategy.proofs.Excluded.{excluded, length-vertical, length-calendar, length-box}
 use Rattle.strategy.proofs.class.three_legs.Goals as goal

@@ -1,7 +1,7 @@
-use Rattle.std.proofs.Common.{List, [], ◌∷◌, refl, arith}
+use Rattle.std.proofs.Common.{List, [], ◌∷◌, arith}
 use Rattle.std.proofs.lemmas.Bool.Decides.{not_from_Decides}
 use Rattle.strategy.specs.declared.leg.Leg.{Leg}
-use Rattle.strategy.proofs.Excluded.{excluded, None_of, length-butterfly, length-box}
+use Rattle.strategy.proofs.Excluded.{excluded, length-butterfly, length-box}
 use Rattle.strategy.proofs.class.two_legs.Goals as goal
 
 pub returns-in-None-2 : goal.returns-in-None-2

@@ -1,4 +1,4 @@
-use Rattle.std.proofs.Common.{arith, rules}
+use Rattle.std.proofs.Common.{arith}
 use Rattle.std.proofs.lemmas.Bool.{both_ways}
 use Rattle.strategy.proofs.Span.{vertical_read}
 use Rattle.strategy.proofs.class.vertical_width.Goals as goal

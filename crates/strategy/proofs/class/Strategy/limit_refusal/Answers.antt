@@ -1,5 +1,4 @@
 use Rattle.std.proofs.Common.{◌≡◌, w64, SFits, rules}
-use Rattle.std.proofs.lemmas.Int.{to_z-of_z}
 use Rattle.strategy.specs.Few.{listed}
 use Rattle.strategy.specs.Prices.{limit_refusal}
 use Rattle.strategy.proofs.Laws.{limit_law}
