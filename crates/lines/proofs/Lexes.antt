@@ -1,5 +1,5 @@
 -- The tokens of any bytes, and those of a form.
-use Rattle.std.proofs.Common.{◌≡◌, ℕ, zero, suc, ◌+◌, ◌-◌, ◌*◌, ◌/◌, ◌%◌, ◌^◌, ◌<◌, ◌≤◌, Bool, true, false, cond, eqb, ltb, leb, ◌⊎◌, List, [], ◌∷◌, ◌++◌, length, get_or, take, drop, ℤ, pos, negsuc, ◌-ℤ◌, neg_ℤ, nat_abs, IsUtf8, decimal, sym, refl, ap, ◌∙◌, inl, inr, ⊎_elim, append_assoc, append-nil, add-zero, add-one, arith, length-append, length-drop, length-take, drop-cons, w32, to_z, of_z}
+use Rattle.std.proofs.Common.{◌≡◌, ℕ, zero, suc, ◌+◌, ◌-◌, ◌*◌, ◌/◌, ◌%◌, ◌^◌, ◌<◌, ◌≤◌, true, false, cond, eqb, ltb, List, [], ◌∷◌, ◌++◌, length, get_or, take, drop, ℤ, pos, negsuc, ◌-ℤ◌, neg_ℤ, nat_abs, IsUtf8, decimal, sym, refl, ap, ◌∙◌, append_assoc, add-zero, add-one, arith, length-append, length-drop, length-take, drop-cons, w32, to_z, of_z}
 use Rattle.std.specs.Fmt.{signed_decimal}
 use Rattle.std.specs.List.{AllByRecursion as All}
 use Rattle.std.proofs.lemmas.Str.Ascii.{IsAscii-from_reads}
@@ -12,8 +12,8 @@ use Rattle.std.proofs.lemmas.Bool.{cond-true, lt-ltb}
 use Rattle.std.proofs.lemmas.Bool.Decides.{nat_tests}
 use Rattle.lines.proofs.Accepts.{Digit, own}
 use Rattle.lines.specs.Scanner.{within}
-use Rattle.lines.specs.Forms.{Letter, IsWord, Atom, word, number, Item, single, group, IsAtom, IsItem, atom_text, item_text, spaced_atoms, spaced_items, form_text, Spells}
-use Rattle.lines.specs.Tokens.{Lexeme, named, counted, opens, closes, atom_lexeme, spaced_atom_lexemes, item_lexemes, spaced_item_lexemes, form_lexemes}
+use Rattle.lines.specs.Forms.{Letter, Atom, word, number, Item, single, group, IsAtom, IsItem, atom_text, item_text, spaced_atoms, spaced_items, Spells}
+use Rattle.lines.specs.Tokens.{named, counted, opens, closes, atom_lexeme, spaced_atom_lexemes, item_lexemes, spaced_item_lexemes, form_lexemes}
 use Rattle.lines.specs.Lexing.{ink, inked, with_digit, magnitude, numeral, atom_of, lexed, left_from}
 
 pub lexed_skip : (c k : ℕ) (bs : List ℕ) → lexed c k bs ≡ lexed (c + k) 0 (drop k bs)

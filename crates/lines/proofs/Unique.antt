@@ -1,12 +1,12 @@
 -- A line has one column at fault, one reading and one answer.
-use Rattle.std.proofs.Common.{◌≡◌, ℕ, ◌+◌, ◌-◌, ◌<◌, ◌≤◌, min, ◌⊎◌, List, [], ◌∷◌, ◌++◌, length, take, drop, sym, refl, ap, ◌∙◌, subst, inl, inr, ⊎_elim, append_assoc, arith, length-take}
+use Rattle.std.proofs.Common.{◌≡◌, ℕ, ◌+◌, ◌-◌, ◌<◌, ◌≤◌, List, [], ◌∷◌, ◌++◌, length, take, drop, sym, refl, ap, ◌∙◌, subst, ⊎_elim, append_assoc, arith, length-take}
 use Rattle.std.proofs.lemmas.List.{take_all, take-take, take-append-drop}
 use Rattle.std.proofs.lemmas.Bool.{cases_lt}
 use Rattle.lines.specs.declared.fault.LineFault.{LineFault}
 use Rattle.lines.specs.declared.fault.LineFault.TheVariants.{ShortArea, TooLong, Broken, Unknown}
-use Rattle.lines.specs.Forms.{Atom, word, number, Item, single, group, atom_text, item_text, Spells, Form, OneReading, Begins, FaultAt, OnlyFault}
-use Rattle.lines.specs.Faults.{Read, Refuses}
-use Rattle.lines.specs.Tokens.{Lexeme, named, counted, opens, closes, atom_lexeme, spaced_atom_lexemes, item_lexemes, spaced_item_lexemes, form_lexemes}
+use Rattle.lines.specs.Forms.{Atom, word, number, Item, single, group, atom_text, item_text, Form, OneReading, Begins, FaultAt, OnlyFault}
+use Rattle.lines.specs.Faults.{Refuses}
+use Rattle.lines.specs.Tokens.{Lexeme, named, opens, closes, atom_lexeme, spaced_atom_lexemes, spaced_item_lexemes, form_lexemes}
 use Rattle.lines.proofs.Lexes.{form_left}
 
 -- One column at fault.

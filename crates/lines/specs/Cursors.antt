@@ -1,5 +1,5 @@
 -- What a cursor has left to read, and what opening one answers.
-use Rattle.std.specs.Prelude.{◌≡◌, ℕ, List, Ok, Err, Result, MatchResult}
+use Rattle.std.specs.Prelude.{◌≡◌, ℕ, List, Result, MatchResult}
 use Rattle.lines.specs.Faults.{Read, Refuses}
 use Rattle.lines.specs.Lexing.{left_from}
 use Rattle.lines.specs.Tokens.{Lexeme}

@@ -1,5 +1,5 @@
 -- The tokens of a form.
-use Rattle.std.specs.Prelude.{ℕ, ◌+◌, List, [], ◌∷◌, ◌++◌, map, length, ℤ}
+use Rattle.std.specs.Prelude.{ℕ, ◌+◌, List, [], ◌∷◌, ◌++◌, length, ℤ}
 use Rattle.lines.specs.Forms.{Atom, word, number, Item, single, group, atom_text, item_text}
 use Rattle.lines.specs.declared.cursor.Token.{Token}
 use Rattle.lines.specs.declared.cursor.Token.TheVariants.{Word, Number, Open, Close}

@@ -1,4 +1,4 @@
-use Rattle.std.proofs.Common.{◌≡◌, true, leb, length, get_or, take, sym, ap, subst, arith}
+use Rattle.std.proofs.Common.{◌≡◌, true, leb, get_or, take, sym, subst, arith}
 use Rattle.std.specs.List.{AllByRecursion as All}
 use Rattle.std.proofs.ByRecursion.{All-more}
 use Rattle.std.proofs.lemmas.Bool.{and_from, le-leb}
@@ -17,8 +17,8 @@ returns-then-n-most c =
       all = subst (λ k. All (λ b. within c.args.low c.args.high b ≡ true) (take k c.args.bytes.now)) (sym c.loop-b.invariant.0) all;
     }
 
-pub overflow-add-n : goal.overflow-add-n
-overflow-add-n c = omega (arith, c.loop-b.invariant.1, c.if-n-most.false)
+pub overflow_add-n : goal.overflow_add-n
+overflow_add-n c = omega (arith, c.loop-b.invariant.1, c.if-n-most.false)
 
 pub loop-b-preserved : goal.loop-b-preserved
 loop-b-preserved c =

@@ -8,8 +8,8 @@ use Rattle.lines.proofs.scan.scan.Goals as goal
 pub loop-at-init : goal.loop-at-init
 loop-at-init c = (refl, omega arith)
 
-pub returns-in-default : goal.returns-in-default
-returns-in-default c = only_fault _ _ (fault_here c.args.line.now c.loop-at.at _ c.loop-at-test.true c.loop-at.invariant.0 (sym c.step.ensures ∙ c.in-default.is))
+pub returns-in_default : goal.returns-in_default
+returns-in_default c = only_fault _ _ (fault_here c.args.line.now c.loop-at.at _ c.loop-at-test.true c.loop-at.invariant.0 (sym c.step.ensures ∙ c.in_default.is))
 
 pub loop-at-preserved : goal.loop-at-preserved
 loop-at-preserved c =
@@ -24,5 +24,5 @@ loop-at-preserved c =
 pub returns-in-Done : goal.returns-in-Done
 returns-in-Done c = sound c.args.line.now (run_all c.args.line.now c.loop-at.at _ c.loop-at-test.false c.loop-at.invariant.0 ∙ ap Some c.in-Done.is)
 
-pub returns-in-default-state : goal.returns-in-default-state
-returns-in-default-state c = only_fault _ _ (fault_short c.args.line.now _ (run_all c.args.line.now c.loop-at.at _ c.loop-at-test.false c.loop-at.invariant.0) c.in-default-state.not-Done)
+pub returns-in_default-state : goal.returns-in_default-state
+returns-in_default-state c = only_fault _ _ (fault_short c.args.line.now _ (run_all c.args.line.now c.loop-at.at _ c.loop-at-test.false c.loop-at.invariant.0) c.in_default-state.not-Done)

@@ -1,4 +1,4 @@
-use Rattle.std.proofs.Common.{◌≡◌, ◌-◌, ◌<◌, ◌≤◌, length, take, subst, arith}
+use Rattle.std.proofs.Common.{◌-◌, ◌<◌, ◌≤◌, length, take, subst, arith}
 use Rattle.lines.specs.Cursors.{left}
 use Rattle.lines.specs.Faults.{Read, Refuses}
 use Rattle.lines.specs.Lexing.{left_from}
@@ -29,7 +29,7 @@ unfolding left
 returns c =
     let line = c.args.line.now in
     let short : length line ≤ 512 = omega arith in
-    let form = c.in-default.ensures in
+    let form = c.in_default.ensures in
     let found = left_from (take (length line - 1) line) 1 in
     let read : Read line found = record { short = short; form = form; one = one_reading line; says = λ head items s. form_left line head items s } in
     record {
