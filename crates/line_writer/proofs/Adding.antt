@@ -1,12 +1,12 @@
 -- One text after another on a line.
-use Rattle.std.proofs.Common.{◌≡◌, ℕ, zero, suc, ◌+◌, ◌-◌, ◌<◌, ◌≤◌, min, true, false, List, [], ◌∷◌, ◌++◌, map, length, take, ℤ, pos, negsuc, nat_abs, decimal, sym, refl, ap, ◌∙◌, subst, ⊎_elim, append_assoc, append-nil, arith, length-append, length-take}
+use Rattle.std.proofs.Common.{◌≡◌, ℕ, zero, suc, ◌+◌, ◌-◌, ◌≤◌, min, true, false, List, [], ◌∷◌, ◌++◌, length, take, ℤ, pos, negsuc, nat_abs, decimal, sym, refl, ap, ◌∙◌, subst, ⊎_elim, append_assoc, append-nil, arith, length-append, length-take}
 use lib.Seq.{take-append-add}
 use lib.Signed.{lt_z}
 use Rattle.std.specs.Fmt.{signed_decimal}
-use Rattle.std.proofs.lemmas.List.{take_all, take-append-le, flat_map_more, map_more, take_more}
+use Rattle.std.proofs.lemmas.List.{take_all, take-append-le, flat_map_more}
 use Rattle.std.proofs.lemmas.Bool.{cases_lt, ltb-true, true≢false}
 use Rattle.lines.specs.Forms.{Atom, atom_text, spaced_atoms}
-use Rattle.line_writer.specs.Lines.{held, Starts, Adds, render}
+use Rattle.line_writer.specs.Lines.{Starts, Adds, render}
 
 -- a list that was cut before is cut at the same place
 pub cut_again : (n : ℕ) (xs ys : List ℕ) → take n (take n xs ++ ys) ≡ take n (xs ++ ys)

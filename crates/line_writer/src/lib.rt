@@ -1,3 +1,4 @@
 // Lines that are written: a form's bytes, and their way into memory that a caller lends.
 #![tactic(auto)]
+
 pub mod line;

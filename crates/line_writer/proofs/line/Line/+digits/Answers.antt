@@ -1,4 +1,4 @@
-use Rattle.std.proofs.Common.{sym, ap, arith}
+use Rattle.std.proofs.Common.{sym, arith}
 use Rattle.std.proofs.lemmas.Fmt.{decimal_digit, decimal_step}
 use Rattle.line_writer.proofs.Adding.{in_turn, same_text}
 use Rattle.line_writer.proofs.line.Line.+digits.Goals as goal

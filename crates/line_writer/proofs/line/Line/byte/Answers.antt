@@ -1,4 +1,4 @@
-use Rattle.std.proofs.Common.{◌≡◌, ◌+◌, ◌≤◌, [], ◌∷◌, length, ◌∙◌, arith, length-take}
+use Rattle.std.proofs.Common.{◌+◌, ◌≤◌, [], ◌∷◌, length, ◌∙◌, arith, length-take}
 use Rattle.std.proofs.lemmas.List.{take_more_set}
 use Rattle.line_writer.specs.Lines.{held}
 use Rattle.line_writer.proofs.Adding.{there_is_room, no_room}

@@ -7,7 +7,7 @@ use Rattle.line_writer.proofs.line.Line.field.Goals as goal
 
 pub returns-in-Word : goal.returns-in-Word
 returns-in-Word c =
-    same_text (ap (λ w. 32 ∷ w) c.as-bytes.ensures.value ∙ ap (λ f. 32 ∷ atom_text (atom f)) (sym c.in-Word.is)) (in_turn (32 ∷ []) _ c.byte.ensures c.text.ensures)
+    same_text (ap (λ w. 32 ∷ w) c.as_bytes.ensures.value ∙ ap (λ f. 32 ∷ atom_text (atom f)) (sym c.in-Word.is)) (in_turn (32 ∷ []) _ c.byte.ensures c.text.ensures)
 
 pub returns-in-Number : goal.returns-in-Number
 returns-in-Number c =

@@ -1,12 +1,12 @@
-use Rattle.std.proofs.Common.{◌≡◌, [], ◌∷◌, ◌++◌, map, length, take, sym, ap, ◌∙◌, subst, arith}
+use Rattle.std.proofs.Common.{◌∷◌, ◌++◌, map, take, sym, subst}
 use Rattle.std.proofs.lemmas.List.{map_more, take_all}
 use Rattle.lines.specs.Forms.{spaced_atoms}
-use Rattle.line_writer.specs.Lines.{held, Starts, Adds, atom, render}
+use Rattle.line_writer.specs.Lines.{held, Starts, atom}
 use Rattle.line_writer.proofs.Adding.{opened, added, closed, same_text}
 use Rattle.line_writer.proofs.line.Line.form.Goals as goal
 
 pub loop-field-init : goal.loop-field-init
-loop-field-init c = opened c.args.head.now c.new-line.ensures c.byte.ensures (same_text c.as-bytes.ensures.value c.text.ensures)
+loop-field-init c = opened c.args.head.now c.new-line.ensures c.byte.ensures (same_text c.as_bytes.ensures.value c.text.ensures)
 
 pub loop-field-preserved : goal.loop-field-preserved
 loop-field-preserved c =
