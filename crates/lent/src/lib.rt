@@ -1,3 +1,4 @@
 // Growing lists over memory that a caller lends.
 #![tactic(auto)]
+
 pub mod list;
