@@ -1,5 +1,5 @@
 -- Parts of a list of bytes, and its first line break.
-use Rattle.std.proofs.Common.{◌≡◌, ℕ, zero, suc, ◌+◌, ◌-◌, ◌<◌, ◌≤◌, min, List, [], ◌∷◌, ◌++◌, length, get_or, take, drop, sym, refl, ap, ◌∙◌, ⊎_elim, add-one, arith, length-drop, length-take, drop-cons}
+use Rattle.std.proofs.Common.{◌≡◌, ℕ, suc, ◌+◌, ◌-◌, ◌<◌, ◌≤◌, min, List, ◌∷◌, ◌++◌, take, drop, sym, ap, ◌∙◌, ⊎_elim, add-one, arith, length-take, drop-cons}
 use Rattle.std.proofs.lemmas.List.{take_all, take-take, take-append-drop, drop-take, drop-drop, get_or-take}
 use Rattle.std.proofs.lemmas.Bool.{cases_lt}
 use Rattle.input.specs.Breaks.{NoBreak, BreakAt, Splits}

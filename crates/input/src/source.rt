@@ -22,7 +22,7 @@ pub struct LineSource<R> {
 }
 
 fn gave_up() -> io::Error {
-    io::Error::from_static_message(ErrorKind::TimedOut, "gave up reading after 2^64 tries")
+    io::Error::new(ErrorKind::TimedOut, "gave up reading after 2^64 tries")
 }
 
 impl<R: Read> LineSource<R> {

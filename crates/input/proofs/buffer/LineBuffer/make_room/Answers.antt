@@ -9,6 +9,6 @@ returns c =
     let all : n - 0 ≡ n = omega arith in
     record {
       line = refl;
-      waiting = ap (λ k. take k c.move-front.new.bytes) all ∙ c.move-front.ensures ∙ ap (λ k. take k (drop b.from b.bytes)) c.min-n.ensures ∙ take_min (b.end - b.from) (drop b.from b.bytes);
+      waiting = ap (λ k. take k c.move_front.new.bytes) all ∙ c.move_front.ensures ∙ ap (λ k. take k (drop b.from b.bytes)) c.min-n.ensures ∙ take_min (b.end - b.from) (drop b.from b.bytes);
       front = refl;
     }

@@ -1,4 +1,4 @@
-use Rattle.std.proofs.Common.{◌≡◌, ◌-◌, min, ltb, length, take, drop, sym, ap, ◌∙◌, arith}
+use Rattle.std.proofs.Common.{◌≡◌, ◌-◌, min, ltb, length, take, drop, ap, ◌∙◌, arith}
 use Rattle.input.proofs.Cuts.{take_min}
 use Rattle.input.proofs.buffer.LineBuffer.take_rest.Goals as goal
 

@@ -11,5 +11,5 @@ returns c =
     let size : c.args.from + n - c.args.from ≡ n = omega arith in
     let long : length (take n part) ≡ n = simp (length-take, length-drop) (omega arith) in
     let copy : take n kept ≡ take n part = ap (λ k. take k kept) (sym long ∙ ap (λ k. length (take k part)) (sym size)) ∙ c.copied-kept.ensures ∙ ap (λ k. take k part) size in
-    let front : c.copy-from-slice.new.self ≡ take n part = c.copy-from-slice.ensures.after ∙ ap (λ k. take k kept) all ∙ copy in
+    let front : c.copy_from_slice.new.self ≡ take n part = c.copy_from_slice.ensures.after ∙ ap (λ k. take k kept) all ∙ copy in
     take_at _ _ n (ap length front ∙ long) ∙ front
