@@ -18,7 +18,7 @@ pub trait Answerer {
 }
 
 fn gave_up() -> io::Error {
-    io::Error::from_static_message(ErrorKind::TimedOut, "gave up after 2^64 lines")
+    io::Error::new(ErrorKind::TimedOut, "gave up after 2^64 lines")
 }
 
 // Gets the next line. Whatever was answered is written before that line is waited for.
@@ -38,7 +38,7 @@ pub fn serve<T: Answerer, R: Read + Drop, W: Write>(
     input: R,
     out: &mut W,
 ) -> io::Result<()>
-    ensures { OnOk result (Served becomes answerer.old answerer.new) }
+    ensures { OnOk result (Served T.becomes answerer.old answerer.new) }
 {
     let mut source = LineSource::new(input);
     for _ in 0..u64::MAX {
