@@ -24,7 +24,7 @@ fn signed_price(leg: &TradedLeg, price: u16) -> i32
 
 fn net_side<M: Market>(market: &M, legs: &[TradedLeg], side: QuoteSide) -> Option<i32>
     requires { length legs.now ≤ 4 }
-    ensures { result ≡ net_side (levels market.now) legs.now side }
+    ensures { result ≡ net_side (M.levels market.now) legs.now side }
 {
     let mut sum: i32 = 0;
     for leg in legs {
@@ -36,7 +36,7 @@ fn net_side<M: Market>(market: &M, legs: &[TradedLeg], side: QuoteSide) -> Optio
 
 // One side of the net market.
 pub fn net_price<M: Market>(market: &M, legs: &Legs<TradedLeg>, side: QuoteSide) -> Option<i32>
-    ensures { result ≡ net_side (levels market.now) (listed legs.now) side }
+    ensures { result ≡ net_side (M.levels market.now) (listed legs.now) side }
 {
     net_side(market, legs.as_slice(), side)
 }
@@ -44,7 +44,7 @@ pub fn net_price<M: Market>(market: &M, legs: &Legs<TradedLeg>, side: QuoteSide)
 // The net market: the net offer adds ratio times offer of bought legs and subtracts ratio times bid
 // of sold ones, the net bid uses the opposite sides, and each is absent where one of its prices is.
 pub fn net_market<M: Market>(market: &M, legs: &Legs<TradedLeg>) -> TwoSided<i32>
-    ensures { result ≡ net_market (levels market.now) (listed legs.now) }
+    ensures { result ≡ net_market (M.levels market.now) (listed legs.now) }
 {
     let legs = legs.as_slice();
     TwoSided {

@@ -40,7 +40,7 @@ fn are_distinct(legs: &[TradedLeg]) -> bool
 
 // Whether the level that a leg's net price uses has the contracts of some units.
 fn is_ready<M: Market>(market: &M, leg: &TradedLeg, net: QuoteSide, units: u16) -> bool
-    ensures { result ≡ leg_ready (levels market.now) net units leg.now }
+    ensures { result ≡ leg_ready (M.levels market.now) net units leg.now }
 {
     let n = contracts(leg, units);
     match market.best(leg.series as usize, leg.used_side(net)) {
@@ -50,7 +50,7 @@ fn is_ready<M: Market>(market: &M, leg: &TradedLeg, net: QuoteSide, units: u16) 
 }
 
 fn are_ready<M: Market>(market: &M, legs: &[TradedLeg], net: QuoteSide, units: u16) -> bool
-    ensures { result ≡ all_ready (levels market.now) net units legs.now }
+    ensures { result ≡ all_ready (M.levels market.now) net units legs.now }
 {
     for leg in legs {
         if !is_ready(market, leg, net, units) {
@@ -67,9 +67,9 @@ pub fn take_legs<M: Market>(
     net: QuoteSide,
     units: u16,
 ) -> Result<(), MarketFault>
-    ensures answer { result ≡ (if can_take_legs (levels market.old) net units (listed legs.now) then Ok tt else Err Take) }
-    ensures after { levels market.new ≡ (if can_take_legs (levels market.old) net units (listed legs.now) then legs_taken (levels market.old) net units (listed legs.now) else levels market.old) }
-    ensures same { count market.new ≡ count market.old }
+    ensures answer { result ≡ (if can_take_legs (M.levels market.old) net units (listed legs.now) then Ok tt else Err Take) }
+    ensures after { M.levels market.new ≡ (if can_take_legs (M.levels market.old) net units (listed legs.now) then legs_taken (M.levels market.old) net units (listed legs.now) else M.levels market.old) }
+    ensures same { M.count market.new ≡ M.count market.old }
 {
     let legs = legs.as_slice();
     if !are_distinct(legs) || !are_ready(market, legs, net, units) {

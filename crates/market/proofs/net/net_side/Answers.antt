@@ -5,11 +5,11 @@ use Rattle.market.proofs.net.net_side.Goals as goal
 
 pub returns-in_err-price : goal.returns-in_err-price
 returns-in_err-price g c =
-    c.from-residual.ensures
+    c.from_residual.ensures
     ∙ sym (net_none (g.M.Market.levels c.args.market.now) c.args.side c.args.legs.now c.loop-leg.leg-index c.loop-leg-test.true _ c.used_side.ensures _ c.best.ensures _ c.loop-leg.invariant.3 c.in_err-price.was)
 
-pub overflow-add-sum : goal.overflow-add-sum
-overflow-add-sum g c = omega (arith, ints)
+pub overflow_add-sum : goal.overflow_add-sum
+overflow_add-sum g c = omega (arith, ints)
 
 pub loop-leg-preserved : goal.loop-leg-preserved
 loop-leg-preserved g c = (
