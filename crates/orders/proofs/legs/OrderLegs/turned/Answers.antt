@@ -7,4 +7,4 @@ use Rattle.orders.proofs.legs.OrderLegs.turned.Goals as goal
 pub invariant_of-result : goal.invariant_of-result
 invariant_of-result c =
     let e : listed c.match-legs.legs ≡ map (turned_leg c.args.turned) (listed c.args.self.legs) = search rules in
-    (ap sound e ∙ turned_sound c.args.turned (listed c.args.self.legs) c.args.self.sound, tt)
+    record { sound = ap sound e ∙ turned_sound c.args.turned (listed c.args.self.legs) c.args.self.sound }

@@ -11,7 +11,7 @@ use Rattle.orders.proofs.records.LegList.checked.Goals as goal
 
 pub returns-in_err-two_to_four : goal.returns-in_err-two_to_four
 returns-in_err-two_to_four c =
-    let answer : map_ok legs_in c.from-residual.result ≡ checked_legs c.args.self = search rules in
+    let answer : map_ok legs_in c.from_residual.result ≡ checked_legs c.args.self = search rules in
     record { answer = answer; whole = λ all e. answer ∙ ap checked_legs e ∙ whole_checked_lem all }
 
 pub returns : goal.returns

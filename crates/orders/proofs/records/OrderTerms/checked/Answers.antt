@@ -19,10 +19,10 @@ returns-in_err-quantity c = record { answer = search rules; whole = order_whole 
 
 pub returns-in_err-order_legs : goal.returns-in_err-order_legs
 returns-in_err-order_legs c =
-    let p = err_from_is_err_and c.from-residual-in_err-order_legs.result c.from-residual-in_err-order_legs.ensures.1 in
+    let p = err_from_is_err_and c.from_residual-in_err-order_legs.result c.from_residual-in_err-order_legs.ensures.1 in
     let fits : SFits w32 c.args.self.quantity = search rules in
     let quantity = simp to_z-of_z at c.in_ok-quantity.ensures in
-    let answer : map_ok entered_order c.from-residual-in_err-order_legs.result ≡ checked_order c.args.self =
+    let answer : map_ok entered_order c.from_residual-in_err-order_legs.result ≡ checked_order c.args.self =
     rw (p.1, p.2) (stops_legs c.args.self (listed c.in_ok-legs.legs) _ _ c.in_ok-legs.ensures (sym c.limit_in_range.ensures ∙ c.if-not-limit_in_range.false) quantity c.in_err-order_legs.ensures) in
     record { answer = answer; whole = order_whole c.args.self _ answer }
 
