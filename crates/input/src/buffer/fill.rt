@@ -1,5 +1,5 @@
 // Filling the buffer.
-ghost use Rattle.std.specs.Prelude.{◌≡◌, ℕ, ◌+◌, ◌<◌, ◌≤◌, [], length, take, drop, IfOk, MatchResult};
+ghost use Rattle.std.specs.Prelude.{◌≡◌, ◌+◌, ◌≤◌, [], length, take, drop, IfOk, MatchResult};
 ghost use Rattle.input.specs.Buffers.{line, waiting, Receives};
 
 use super::{CAPACITY, KEPT, LineBuffer};
