@@ -1,5 +1,5 @@
 -- What an order in turned terms gets from a market.
-use Rattle.std.specs.Prelude.{ℕ, ◌+◌, ◌/◌, min, Bool, true, false, cond, List, [], ◌∷◌, map, ℤ, pos, Some, None, Ok, Err, Option, Result, int_lt, nat_lt}
+use Rattle.std.specs.Prelude.{ℕ, ◌+◌, ◌/◌, min, Bool, false, cond, List, [], ◌∷◌, map, ℤ, pos, Some, None, Ok, Err, Option, Result, int_lt, nat_lt}
 use Rattle.std.specs.Option.{unwrap_or}
 use Rattle.strategy.specs.declared.leg.Side.{Side}
 use Rattle.strategy.specs.declared.leg.Side.TheVariants.{Buy, Sell}
