@@ -1,3 +1,4 @@
 pub mod Steps
 pub mod Units
 pub mod Quotes
+pub mod Fillings

@@ -46,7 +46,7 @@ some_is : (x : Option ℤ) → is_some x ≡ true → x ≡ Some (unwrap_or x (p
 some_is None e = let z : ◌≡◌ {A = ℕ} 0 1 = cc in absurd (omega arith)
 some_is (Some net) e = refl
 
-listed_each : {A B : Type 0} (f : A → B) (legs : Legs A) → listed (each_leg f legs) ≡ map f (listed legs)
+pub listed_each : {A B : Type 0} (f : A → B) (legs : Legs A) → listed (each_leg f legs) ≡ map f (listed legs)
 listed_each f (Two legs) = refl
 listed_each f (Three legs) = refl
 listed_each f (Four legs) = refl
@@ -103,7 +103,7 @@ exact false X f h = (
   (λ e x. let t = h.1 x in let z : ◌≡◌ {A = ℕ} 0 1 = cc in omega arith, λ n. refl),
 )
 
-banded : (c : Class) (buffers : Buffers) (P Q : Buffer → Type 0) → ((f : Buffer) → P f → Q f) → ForBanded c buffers P → ForBanded c buffers Q
+pub banded : (c : Class) (buffers : Buffers) (P Q : Buffer → Type 0) → ((f : Buffer) → P f → Q f) → ForBanded c buffers P → ForBanded c buffers Q
 banded Bought buffers P Q k h = tt
 banded Vertical buffers P Q k h = k buffers.vertical h
 banded Calendar buffers P Q k h = tt

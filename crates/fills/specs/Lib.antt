@@ -1,2 +1,4 @@
 pub mod Fills
 pub mod FillLaws
+pub mod Fillings
+pub mod FillingLaws

@@ -21,7 +21,7 @@ use strategy::legs::Legs;
 use strategy::price::Buffers;
 
 // The side of the net market that an order takes.
-pub(crate) fn taken_side(side: Side) -> QuoteSide
+pub fn taken_side(side: Side) -> QuoteSide
     ensures { result ≡ taken_side side }
 {
     match side {
