@@ -3,8 +3,8 @@ use Rattle.venues.specs.Quotes.{no_quote, sound}
 use Rattle.venues.specs.Tables.{get_d_filled, table_filled}
 use Rattle.venues.proofs.board.Board.new.Goals as goal
 
-pub invariant-of-result : goal.invariant-of-result
-invariant-of-result c = (refl, (λ k. ap sound (get_d_filled 256 k no_quote), tt))
+pub invariant_of-result : goal.invariant_of-result
+invariant_of-result c = record { size = refl; ok = λ k. ap sound (get_d_filled 256 k no_quote) }
 
 pub returns : goal.returns
 returns c = table_filled 256

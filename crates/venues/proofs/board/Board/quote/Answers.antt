@@ -4,12 +4,12 @@ use Rattle.venues.specs.Quotes.{table_levels, quote_answer, quoted_levels}
 use Rattle.venues.specs.Tables.{table_set, sound_set, table_uncrossed}
 use Rattle.venues.proofs.board.Board.quote.Goals as goal
 
-pub invariant-of-self : goal.invariant-of-self
-invariant-of-self c =
+pub invariant_of-self : goal.invariant_of-self
+invariant_of-self c =
     let b = c.args.self.now in
     let read = c.in_ok-series.ensures.sound in
     let within : c.in_ok-series.series < length b.quotes = omega arith in
-    (length-set b.quotes c.in_ok-series.series c.in_ok-series.quote ∙ b.size, (sound_set b.quotes c.in_ok-series.series c.in_ok-series.quote within read.1 b.ok, tt))
+    record { size = length-set b.quotes c.in_ok-series.series c.in_ok-series.quote ∙ b.size; ok = sound_set b.quotes c.in_ok-series.series c.in_ok-series.quote within read.1 b.ok }
 
 pub returns : goal.returns
 returns c =

@@ -3,13 +3,13 @@ use Rattle.std.proofs.lemmas.List.{length-take}
 use Rattle.venues.proofs.Depths.{inserted_front, length-put}
 use Rattle.venues.proofs.depth.Depth.insert.Goals as goal
 
-pub invariant-of-self : goal.invariant-of-self
-invariant-of-self c =
+pub invariant_of-self : goal.invariant_of-self
+invariant_of-self c =
     let d = c.args.self.now in
     let near : c.args.i ≤ d.count = omega (arith, simp length-take at c.requires.place) in
     let room : d.count < 8 = omega (arith, simp length-take at c.requires.room) in
     let long = length-put d.levels c.rotate_right.new.self d.count c.args.i (8 - c.args.i) (omega arith) c.rotate_right.ensures.len in
-    (length-set _ c.args.i c.args.level ∙ long ∙ d.size, (omega arith, tt))
+    record { size = length-set _ c.args.i c.args.level ∙ long ∙ d.size; few = omega arith }
 
 pub returns : goal.returns
 returns c =

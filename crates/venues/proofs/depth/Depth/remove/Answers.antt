@@ -3,11 +3,11 @@ use Rattle.std.proofs.lemmas.List.{length-take}
 use Rattle.venues.proofs.Depths.{removed_front, length-put}
 use Rattle.venues.proofs.depth.Depth.remove.Goals as goal
 
-pub invariant-of-self : goal.invariant-of-self
-invariant-of-self c =
+pub invariant_of-self : goal.invariant_of-self
+invariant_of-self c =
     let d = c.args.self.now in
     let near : c.args.i < d.count = omega (arith, simp length-take at c.requires) in
-    (length-put d.levels c.rotate_left.new.self d.count c.args.i (8 - c.args.i) (omega arith) c.rotate_left.ensures.len ∙ d.size, (omega arith, tt))
+    record { size = length-put d.levels c.rotate_left.new.self d.count c.args.i (8 - c.args.i) (omega arith) c.rotate_left.ensures.len ∙ d.size; few = omega arith }
 
 pub returns : goal.returns
 returns c =

@@ -25,13 +25,13 @@ returns c =
     let n = c.in_ok-series.size in
     let s = c.args.side in
     let row = sym (row_at l.series k within d) in
-    let answer = c.level_answer.ensures.answer ∙ ap (λ f. set_answer s p n (f s) (f (opposite s))) row ∙ ap (level_answer (rows_levels l.series) s) read in
-    let after = row_side l.series k within d c.level_answer.new.self s _ c.level_answer.ensures.after ∙ ap (λ f. replaced (rows_levels l.series) k s (set_after s p n (f s) (f (opposite s)))) row ∙ call_left (rows_levels l.series) k s p n (rows_levels l.series k (opposite s)) ∙ ap (level_after (rows_levels l.series) s) read in
+    let answer = c.level-answer.ensures.answer ∙ ap (λ f. set_answer s p n (f s) (f (opposite s))) row ∙ ap (level_answer (rows_levels l.series) s) read in
+    let after = row_side l.series k within d c.level-answer.new.self s _ c.level-answer.ensures.after ∙ ap (λ f. replaced (rows_levels l.series) k s (set_after s p n (f s) (f (opposite s)))) row ∙ call_left (rows_levels l.series) k s p n (rows_levels l.series k (opposite s)) ∙ ap (level_after (rows_levels l.series) s) read in
     record {
       answer = answer;
       after = after;
       shown = λ ok. level_shows 15 (rows_levels l.series) _ s c.args.series c.args.price c.args.size (λ j. rows_ordered l.series j s) (sym answer ∙ ok) after;
-      uncrossed = rows_uncrossed (set l.series k c.level_answer.new.self);
+      uncrossed = rows_uncrossed (set l.series k c.level-answer.new.self);
     }
 
 pub returns-in_err-series : goal.returns-in_err-series
@@ -41,7 +41,7 @@ returns-in_err-series c =
     let f1 = c.ranges.price in
     let f2 = c.ranges.size in
     let read = simp to_z-of_z at c.in_err-series.ensures.value in
-    let e = err_from_is_err_and c.from-residual.result c.from-residual.ensures.1 in
+    let e = err_from_is_err_and c.from_residual.result c.from_residual.ensures.1 in
     let answer = e.1 ∙ ap Err e.2 ∙ ap (level_answer (rows_levels l.series) c.args.side) read in
     let after = ap (level_after (rows_levels l.series) c.args.side) read in
     record {

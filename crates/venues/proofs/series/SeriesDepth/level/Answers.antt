@@ -26,16 +26,15 @@ returns-else-is_blocked c =
       after = after_at (series_levels r) c.args.price c.args.size c.args.side Bid c.in-Bid.is _ (one_bid (series_levels r) _ _ (free_after Bid c.args.price c.args.size (depth_levels r.bids) (depth_levels r.offers) (depth_levels c.set.new.self) free c.set.ensures.after) refl);
     }
 
-pub invariant-of-self : goal.invariant-of-self
-invariant-of-self c =
+pub invariant_of-self : goal.invariant_of-self
+invariant_of-self c =
     let r = c.args.self.now in
-    let free = ap (blocked Bid c.args.price c.args.size) (sym c.first.ensures) ∙ sym c.is_blocked.ensures ∙ c.if-is_blocked.false in (
-      left_both (λ ls. ordered Bid ls ≡ true) Bid c.args.price c.args.size (depth_levels r.bids) (depth_levels c.set.new.self) c.set.ensures.after r.falling (ordered_sized Bid c.args.price c.args.size (depth_levels r.bids) c.requires.price.0 c.requires.price.1 c.requires.size r.falling),
-      (
-        r.rising,
-        (left_both (λ ls. apart (first_of ls) (first_of (depth_levels r.offers)) ≡ true) Bid c.args.price c.args.size (depth_levels r.bids) (depth_levels c.set.new.self) c.set.ensures.after r.clear (bids_sized c.args.price c.args.size (depth_levels r.bids) (first_of (depth_levels r.offers)) r.falling r.clear (free_meets Bid c.args.price c.args.size (first_of (depth_levels r.offers)) free)), tt),
-      ),
-    )
+    let free = ap (blocked Bid c.args.price c.args.size) (sym c.first.ensures) ∙ sym c.is_blocked.ensures ∙ c.if-is_blocked.false in
+    record {
+      falling = left_both (λ ls. ordered Bid ls ≡ true) Bid c.args.price c.args.size (depth_levels r.bids) (depth_levels c.set.new.self) c.set.ensures.after r.falling (ordered_sized Bid c.args.price c.args.size (depth_levels r.bids) c.requires.price.0 c.requires.price.1 c.requires.size r.falling);
+      rising = r.rising;
+      clear = left_both (λ ls. apart (first_of ls) (first_of (depth_levels r.offers)) ≡ true) Bid c.args.price c.args.size (depth_levels r.bids) (depth_levels c.set.new.self) c.set.ensures.after r.clear (bids_sized c.args.price c.args.size (depth_levels r.bids) (first_of (depth_levels r.offers)) r.falling r.clear (free_meets Bid c.args.price c.args.size (first_of (depth_levels r.offers)) free));
+    }
 
 pub returns-then-is_blocked-2 : goal.returns-then-is_blocked-2
 returns-then-is_blocked-2 c =
@@ -55,13 +54,12 @@ returns-else-is_blocked-2 c =
       after = after_at (series_levels r) c.args.price c.args.size c.args.side Offer c.in-Offer.is _ (one_offer (series_levels r) _ _ (free_after Offer c.args.price c.args.size (depth_levels r.offers) (depth_levels r.bids) (depth_levels c.set-in-Offer.new.self) free c.set-in-Offer.ensures.after) refl);
     }
 
-pub invariant-of-self-in-Offer : goal.invariant-of-self-in-Offer
-invariant-of-self-in-Offer c =
+pub invariant_of-self-in-Offer : goal.invariant_of-self-in-Offer
+invariant_of-self-in-Offer c =
     let r = c.args.self.now in
-    let free = ap (blocked Offer c.args.price c.args.size) (sym c.first-in-Offer.ensures) ∙ sym c.is_blocked-in-Offer.ensures ∙ c.if-is_blocked-2.false in (
-      r.falling,
-      (
-        left_both (λ ls. ordered Offer ls ≡ true) Offer c.args.price c.args.size (depth_levels r.offers) (depth_levels c.set-in-Offer.new.self) c.set-in-Offer.ensures.after r.rising (ordered_sized Offer c.args.price c.args.size (depth_levels r.offers) c.requires.price.0 c.requires.price.1 c.requires.size r.rising),
-        (left_both (λ ls. apart (first_of (depth_levels r.bids)) (first_of ls) ≡ true) Offer c.args.price c.args.size (depth_levels r.offers) (depth_levels c.set-in-Offer.new.self) c.set-in-Offer.ensures.after r.clear (offers_sized c.args.price c.args.size (depth_levels r.offers) (first_of (depth_levels r.bids)) r.rising r.clear (free_meets Offer c.args.price c.args.size (first_of (depth_levels r.bids)) free)), tt),
-      ),
-    )
+    let free = ap (blocked Offer c.args.price c.args.size) (sym c.first-in-Offer.ensures) ∙ sym c.is_blocked-in-Offer.ensures ∙ c.if-is_blocked-2.false in
+    record {
+      falling = r.falling;
+      rising = left_both (λ ls. ordered Offer ls ≡ true) Offer c.args.price c.args.size (depth_levels r.offers) (depth_levels c.set-in-Offer.new.self) c.set-in-Offer.ensures.after r.rising (ordered_sized Offer c.args.price c.args.size (depth_levels r.offers) c.requires.price.0 c.requires.price.1 c.requires.size r.rising);
+      clear = left_both (λ ls. apart (first_of (depth_levels r.bids)) (first_of ls) ≡ true) Offer c.args.price c.args.size (depth_levels r.offers) (depth_levels c.set-in-Offer.new.self) c.set-in-Offer.ensures.after r.clear (offers_sized c.args.price c.args.size (depth_levels r.offers) (first_of (depth_levels r.bids)) r.rising r.clear (free_meets Offer c.args.price c.args.size (first_of (depth_levels r.bids)) free));
+    }

@@ -6,27 +6,25 @@ use Rattle.venues.specs.SeriesDepths.{series_levels}
 use Rattle.venues.specs.Ranks.{ordered_taken, apart_bids_taken, apart_offers_taken, one_bid, one_offer}
 use Rattle.venues.proofs.series.SeriesDepth.take.Goals as goal
 
-pub invariant-of-self : goal.invariant-of-self
-invariant-of-self c =
+pub invariant_of-self : goal.invariant_of-self
+invariant_of-self c =
     let r = c.args.self.now in
-    let e = c.take.ensures.after in (
-      ap (ordered Bid) e ∙ ordered_taken Bid (depth_levels r.bids) c.args.n r.falling,
-      (
-        r.rising,
-        (ap (λ ls. apart (first_of ls) (first_of (depth_levels r.offers))) e ∙ apart_bids_taken (depth_levels r.bids) (first_of (depth_levels r.offers)) c.args.n r.falling r.clear, tt),
-      ),
-    )
+    let e = c.take.ensures.after in
+    record {
+      falling = ap (ordered Bid) e ∙ ordered_taken Bid (depth_levels r.bids) c.args.n r.falling;
+      rising = r.rising;
+      clear = ap (λ ls. apart (first_of ls) (first_of (depth_levels r.offers))) e ∙ apart_bids_taken (depth_levels r.bids) (first_of (depth_levels r.offers)) c.args.n r.falling r.clear;
+    }
 
-pub invariant-of-self-in-Offer : goal.invariant-of-self-in-Offer
-invariant-of-self-in-Offer c =
+pub invariant_of-self-in-Offer : goal.invariant_of-self-in-Offer
+invariant_of-self-in-Offer c =
     let r = c.args.self.now in
-    let e = c.take-in-Offer.ensures.after in (
-      r.falling,
-      (
-        ap (ordered Offer) e ∙ ordered_taken Offer (depth_levels r.offers) c.args.n r.rising,
-        (ap (λ ls. apart (first_of (depth_levels r.bids)) (first_of ls)) e ∙ apart_offers_taken (first_of (depth_levels r.bids)) (depth_levels r.offers) c.args.n r.rising r.clear, tt),
-      ),
-    )
+    let e = c.take-in-Offer.ensures.after in
+    record {
+      falling = r.falling;
+      rising = ap (ordered Offer) e ∙ ordered_taken Offer (depth_levels r.offers) c.args.n r.rising;
+      clear = ap (λ ls. apart (first_of (depth_levels r.bids)) (first_of ls)) e ∙ apart_offers_taken (first_of (depth_levels r.bids)) (depth_levels r.offers) c.args.n r.rising r.clear;
+    }
 
 pub returns-in-Bid : goal.returns-in-Bid
 returns-in-Bid c = simp c.in-Bid.is (record { answer = c.take.ensures.answer; after = one_bid (series_levels c.args.self.now) _ _ c.take.ensures.after refl })

@@ -22,20 +22,20 @@ returns-in_err-rest c =
     let b = c.args.self.now in
     let e = ap (λ o. taken_level o c.args.n) (sym c.side.ensures) ∙ sym c.take_level.ensures ∙ c.in_err-rest.was in
     let no = taken_err (side_of (get_or b.quotes c.args.series no_quote) c.args.side) c.args.n _ e in
-    let p = err_from_is_err_and c.from-residual.result c.from-residual.ensures.1 in
+    let p = err_from_is_err_and c.from_residual.result c.from_residual.ensures.1 in
     record {
       answer = p.1 ∙ ap Err (p.2 ∙ no.1) ∙ sym (refused_answer b.quotes c.args.series c.args.side c.args.n no.0);
       after = sym (refused_same (table_levels b.quotes) c.args.series c.args.side c.args.n no.0);
       same = refl;
     }
 
-pub invariant-of-self : goal.invariant-of-self
-invariant-of-self c =
+pub invariant_of-self : goal.invariant_of-self
+invariant_of-self c =
     let b = c.args.self.now in
     let within : c.args.series < length b.quotes = omega arith in
     let e = ap (λ o. taken_level o c.args.n) (sym c.side.ensures) ∙ sym c.take_level.ensures ∙ c.in_ok-rest.was in
     let ok = ap sound c.with.ensures ∙ sound_taken (get_or b.quotes c.args.series no_quote) c.args.side c.args.n _ (b.ok c.args.series) e in
-    (length-set b.quotes c.args.series c.with.result ∙ b.size, (sound_set b.quotes c.args.series c.with.result within ok b.ok, tt))
+    record { size = length-set b.quotes c.args.series c.with.result ∙ b.size; ok = sound_set b.quotes c.args.series c.with.result within ok b.ok }
 
 pub returns : goal.returns
 returns c =

@@ -16,7 +16,7 @@ returns-in_err-level c =
     let within : c.args.series < length l.series = omega arith in
     let row = row_at l.series c.args.series within c.index-self-series.result in
     let first = ap (λ f. first_of (f c.args.side)) row ∙ sym c.first.ensures ∙ c.in_err-level.was in
-    c.from-residual.ensures ∙ sym (best_none (rows_levels l.series c.args.series c.args.side) first)
+    c.from_residual.ensures ∙ sym (best_none (rows_levels l.series c.args.series c.args.side) first)
 
 pub returns : goal.returns
 returns c =
