@@ -1,5 +1,6 @@
 // The operator's drill before the bell: for each strategy on the sheet, what it is, what it can be worth and what the protections say of its prices.
 #![tactic(auto)]
+
 mod print;
 mod sheet;
 #[cfg(test)]
