@@ -1,12 +1,12 @@
 -- What a fill or a cancel of the order n leaves.
-use Rattle.std.proofs.Common.{◌≡◌, ℕ, ◌-◌, ◌<◌, ◌≤◌, true, eqb, ltb, List, length, take, set, Some, None, Option, sym, refl, ap, ◌∙◌, ⊎_elim, arith}
+use Rattle.std.proofs.Common.{◌≡◌, ℕ, ◌-◌, ◌<◌, ◌≤◌, true, eqb, ltb, List, take, set, Some, None, Option, sym, refl, ap, ◌∙◌, ⊎_elim, arith}
 use lib.Seq.{take-set-lt}
 use Rattle.std.specs.List.{remove}
 use Rattle.std.proofs.lemmas.Bool.{and_from, le-leb, cases_eq, cond-true, cond-false, eq-eqb, ne_eqb, lt-ltb, le-ltb}
 use Rattle.book.specs.declared.book.Book.{Book}
 use Rattle.book.specs.declared.order.RestingOrder.{RestingOrder}
 use Rattle.orders.specs.Quantities.{in_range}
-use Rattle.book.specs.Resting.{Resting, resting_of, put, reduced, lessened, leaving}
+use Rattle.book.specs.Resting.{Resting, resting_of, put, reduced, leaving}
 use Rattle.book.specs.Places.{Place, orderly, look, Located}
 use Rattle.book.specs.Books.{in_use, resting}
 use Rattle.book.proofs.Looks.{put_here, put_other, look_at, units_at, look_removed, look_set, orderly_set}

@@ -6,7 +6,7 @@ use Rattle.orders.specs.declared.turned.TurnedOrder.{TurnedOrder}
 use Rattle.book.specs.declared.book.Book.{Book}
 use Rattle.book.specs.declared.order.RestingOrder.{RestingOrder}
 use Rattle.orders.specs.Quantities.{in_range}
-use Rattle.book.specs.Resting.{Resting, resting_of, of_terms, put, open_units, open_up_to, one, resting_up_to, Next, NextOrder}
+use Rattle.book.specs.Resting.{resting_of, of_terms, put, open_units, open_up_to, one, resting_up_to, Next, NextOrder}
 use Rattle.book.specs.Places.{Place, orderly, look, Located}
 use Rattle.book.specs.Books.{in_use, resting, last}
 use Rattle.book.proofs.Looks.{parts, bounds, look_other, look_low, look_high, look_at, units_at, look_push, orderly_push, orderly_weaker}

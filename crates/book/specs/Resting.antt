@@ -1,5 +1,5 @@
 -- Resting orders by their numbers.
-use Rattle.std.specs.Prelude.{◌≡◌, ℕ, zero, suc, ◌+◌, ◌-◌, ◌<◌, Bool, true, false, cond, List, ℤ, is_some, Some, None, Option, MatchOption, ◌==◌, nat_lt}
+use Rattle.std.specs.Prelude.{◌≡◌, ℕ, zero, suc, ◌+◌, ◌-◌, ◌<◌, true, cond, List, ℤ, is_some, Some, None, Option, MatchOption, ◌==◌, nat_lt}
 use Rattle.strategy.specs.declared.leg.Side.{Side}
 use Rattle.strategy.specs.declared.class.Class.{Class}
 use Rattle.strategy.specs.Few.{listed}

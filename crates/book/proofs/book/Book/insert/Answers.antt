@@ -7,10 +7,7 @@ use Rattle.book.proofs.book.Book.insert.Goals as goal
 pub invariant_of-self : goal.invariant_of-self
 invariant_of-self c =
     let s = c.args.self.now in
-    let units = c.units-remaining in (
-      length-set s.places s.used _ ∙ s.sized,
-      (omega arith, (omega arith, (orderly_more s _ units.result 0 c.args.terms (omega arith) (omega arith) units.ensures.ranged, tt))),
-    )
+    let units = c.units-remaining in record { sized = length-set s.places s.used _ ∙ s.sized; few = omega arith; numbered = omega arith; orderly = orderly_more s _ units.result 0 c.args.terms (omega arith) (omega arith) units.ensures.ranged }
 
 pub returns : goal.returns
 returns c =

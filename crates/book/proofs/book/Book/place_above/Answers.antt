@@ -4,7 +4,7 @@ use Rattle.book.specs.Books.{in_use}
 use Rattle.book.proofs.Halves.{halfway, above_here, past_here, never_empty}
 use Rattle.book.proofs.Tables.{length-in_use}
 use Rattle.book.proofs.book.Book.place_above.Goals as goal
-use Rattle.book.proofs.book.Book.place_above.Goals.{in_default-via-in-Some+else-order-number, in_default-via-in-None·}
+use Rattle.book.proofs.book.Book.place_above.Goals.{in_default-via-in-Some+else-order-number, in_default-via-in_default}
 
 pub loop-low-init : goal.loop-low-init
 loop-low-init c = (omega arith, omega arith, λ k lt. refl, λ o lt e. absurd (omega (arith, length-in_use c.args.self.now)))
@@ -40,7 +40,7 @@ loop-low-preserved c =
       c.loop-low.invariant.1,
       elim c.in_default.branch [
         | in_default-via-in-Some+else-order-number w ↦ past_here c.args.self.now _ _ (omega (arith, half.1, c.loop-low.invariant.1)) c.args.number w.in-Some.order w.in-Some.is w.if-order-number.false
-        | in_default-via-in-None· w ↦
+        | in_default-via-in_default w ↦
             let none : get_or c.args.self.now.places ((c.loop-low.low + c.loop-low.high) / 2) c.index-self-middle.result ≡ None = search rules in
             absurd (never_empty c.args.self.now _ _ (omega (arith, half.1, c.loop-low.invariant.1)) none)
       ],

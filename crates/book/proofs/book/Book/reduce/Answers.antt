@@ -5,10 +5,7 @@ use Rattle.book.proofs.book.Book.reduce.Goals as goal
 
 pub invariant_of-self : goal.invariant_of-self
 invariant_of-self c =
-    let s = c.args.self.now in (
-      length-set s.places c.in-Some.located.0 _ ∙ s.sized,
-      (s.few, (s.numbered, (orderly_less s c.args.number c.in-Some.located c.in-Some.ensures c.args.units c.if-units-order-2.true, tt))),
-    )
+    let s = c.args.self.now in record { sized = length-set s.places c.in-Some.located.0 _ ∙ s.sized; few = s.few; numbered = s.numbered; orderly = orderly_less s c.args.number c.in-Some.located c.in-Some.ensures c.args.units c.if-units-order-2.true }
 
 pub returns-then-units-order : goal.returns-then-units-order
 returns-then-units-order c =
