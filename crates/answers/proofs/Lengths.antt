@@ -1,8 +1,7 @@
 -- How long an answer can be.
-use Rattle.std.proofs.Common.{◌≡◌, ℕ, suc, ◌+◌, ◌^◌, ◌<◌, ◌≤◌, List, [], ◌∷◌, length, ℤ, pos, negsuc, nat_abs, decimal, arith, length-append, w64, SFits}
-use Rattle.std.specs.Fmt.{signed_decimal}
+use Rattle.std.proofs.Common.{ℕ, suc, ◌^◌, ◌<◌, ◌≤◌, List, [], ◌∷◌, length, ℤ, pos, negsuc, nat_abs, decimal, arith, length-append, w64, SFits}
 use Rattle.std.proofs.lemmas.Fmt.{length-decimal-le}
-use Rattle.lines.specs.Forms.{Atom, number, atom_text}
+use Rattle.lines.specs.Forms.{Atom, number}
 use Rattle.line_writer.specs.Lines.{render}
 use Rattle.answers.specs.Said.{Short}
 

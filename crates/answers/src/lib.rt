@@ -1,4 +1,5 @@
 // What the gate answers, and the bytes of each answer.
 #![tactic(auto)]
+
 pub mod answer;
 pub mod words;
