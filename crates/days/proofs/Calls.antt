@@ -30,7 +30,7 @@ use Rattle.orders.proofs.Soundness.{turned_sound}
 use Rattle.book.specs.Resting.{Resting, put, nothing, one}
 use Rattle.book.proofs.Looks.{put_here, put_other}
 use Rattle.book.proofs.Totals.{none_rest}
-use Rattle.fills.specs.Fills.{quoted}
+use Rattle.fills.specs.Fillings.{filling}
 use Rattle.days.specs.declared.call.Call.{Call}
 use Rattle.days.specs.declared.call.Call.TheVariants as call
 use Rattle.days.specs.declared.reply.Acceptance.{Acceptance}
@@ -431,7 +431,7 @@ module _ (h : List Event) (s : State) (k : Core h s) (a : Reply) (m m' : Levels)
       own : (w : ℤ) (o : Resting) → lookup s.order w ≡ Some o → matched s m o ≡ Ok f → s.order f.number ≡ Some o
       own (negsuc n) o held fits = absurd (some_none o (sym held))
       own (pos n) o held fits =
-          let drawn = map_ok_lem (line_for o (length s.notices)) (quoted m (terms_in o) o.remaining (in_force s.notices)) f fits in
+          let drawn = map_ok_lem (line_for o (length s.notices)) (filling m (terms_in o) o.remaining (in_force s.notices)) f fits in
           ap s.order (ap (λ (l : Line). l.number) drawn.2 ∙ ap (λ (y : Resting). y.number) (k.orders.known n o held).is) ∙ held
 
   pub step_said : (c : Call) → Step s m c a fs t m' → Said h (by c) t

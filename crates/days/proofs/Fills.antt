@@ -22,9 +22,10 @@ use Rattle.orders.specs.SoundLegs.{sound, turned_leg}
 use Rattle.orders.specs.TurnedTerms.{Terms}
 use Rattle.book.specs.Resting.{Resting}
 use Rattle.fills.specs.declared.fill.LegFill.{LegFill}
-use Rattle.fills.specs.Fills.{Filling, taken_side, level_of, used_level, lacking, leg_fill, past_limit, fill_at, priced, quoted}
-use Rattle.fills.specs.FillLaws.{Filled, Reaches}
-use Rattle.fills.proofs.Quotes.{at_net, filled}
+use Rattle.fills.specs.Fills.{taken_side, level_of, used_level, lacking, leg_fill, past_limit}
+use Rattle.fills.specs.Fillings.{Filling, filling_at, priced, filling}
+use Rattle.fills.specs.FillingLaws.{IsFilling, ReachesNet}
+use Rattle.fills.proofs.Fillings.{at_net, filled}
 use Rattle.days.specs.State.{State, Line, tape_full, in_force, lookup}
 use Rattle.days.specs.Works.{is_open, terms_in, line_for, matched, when_resting, working}
 use Rattle.days.specs.Laws.{times_price, net_of, taken_from, FirstShows, LegsTake, filled_terms, turned_terms}
@@ -46,12 +47,12 @@ reach_cases None (Some net) past next =
     (λ f. inr (net, refl, refl, f))
     (cases_Bool (past net))
 
-pub quoted_cases : (b : Levels) (o : Terms) (remaining : ℕ) (buffers : Buffers) → Low (quoted b o remaining buffers) ⊎ ((net : ℤ) × Reaches b o net)
+pub quoted_cases : (b : Levels) (o : Terms) (remaining : ℕ) (buffers : Buffers) → Low (filling b o remaining buffers) ⊎ ((net : ℤ) × ReachesNet b o net)
 quoted_cases b o remaining buffers =
     let q : QuoteSide = taken_side o.side in
     ⊎_elim inl
     (λ r. inr (r.0, record { enough = r.1; price = r.2; inside = r.3 }))
-    (reach_cases (lacking b q o.legs) (net_side b o.legs q) (λ net. past_limit o.side net o.limit) (λ net. check (not (prevented_of o.class o.width o.side net buffers)) gate.Prevented (Ok (fill_at b o remaining net))))
+    (reach_cases (lacking b q o.legs) (net_side b o.legs q) (λ net. past_limit o.side net o.limit) (λ net. check (not (prevented_of o.class o.width o.side net buffers)) gate.Prevented (Ok (filling_at b o remaining net))))
 
 open_cases : (opened : Bool) (v : Option Resting) (full : Bool) (next : Resting → Result Line GateFault)
     → Low (check opened gate.Phase (when_resting v (λ o. check (not full) gate.TapeFull (next o)))) ⊎ ((o : Resting) × (v ≡ Some o) × (check opened gate.Phase (when_resting v (λ o. check (not full) gate.TapeFull (next o))) ≡ next o))
@@ -68,16 +69,16 @@ work_cases s m z = open_cases (is_open s.phase) (lookup s.order z) (tape_full s)
 pub record Match (s : State) (m : Levels) (o : Resting) (f : Line) : Type 0 where
   pub fill : Filling
   pub line : f ≡ line_for o (length s.notices) fill
-  pub filled : Filled m (terms_in o) o.remaining fill
+  pub filled : IsFilling m (terms_in o) o.remaining fill
   pub allows : prevented_of o.class o.width o.side fill.net (in_force s.notices) ≡ false
 
-not-prevented : (s : State) (m : Levels) (o : Resting) (x : Filling) → quoted m (terms_in o) o.remaining (in_force s.notices) ≡ Ok x → prevented_of o.class o.width o.side x.net (in_force s.notices) ≡ false
+not-prevented : (s : State) (m : Levels) (o : Resting) (x : Filling) → filling m (terms_in o) o.remaining (in_force s.notices) ≡ Ok x → prevented_of o.class o.width o.side x.net (in_force s.notices) ≡ false
 not-prevented s m o x e =
     let stops : ℤ → Bool = λ net. prevented_of o.class o.width o.side net (in_force s.notices) in
     ⊎_elim
     (λ l. absurd (err_ok l.0 x (sym l.1 ∙ e)))
     (λ r.
-    let at : Filling = fill_at m (terms_in o) o.remaining r.0 in
+    let at : Filling = filling_at m (terms_in o) o.remaining r.0 in
     let c = check_ok (not (stops r.0)) gate.Prevented (Ok at) x (sym (at_net m (terms_in o) o.remaining (in_force s.notices) r.0 r.1) ∙ e) in
     ap (λ (y : Filling). stops y.net) (sym (same_ok at x c.1)) ∙ not-true (stops r.0) c.0)
     (quoted_cases m (terms_in o) o.remaining (in_force s.notices))
@@ -85,7 +86,7 @@ not-prevented s m o x e =
 pub match_ok : (s : State) (m : Levels) (o : Resting) (f : Line) → sound o.legs ≡ true → matched s m o ≡ Ok f → Match s m o f
 match_ok s m o f fit e =
     let bs : Buffers = in_force s.notices in
-    let r = map_ok_lem (line_for o (length s.notices)) (quoted m (terms_in o) o.remaining bs) f e in
+    let r = map_ok_lem (line_for o (length s.notices)) (filling m (terms_in o) o.remaining bs) f e in
     record { fill = r.0; line = r.2; filled = filled m (terms_in o) o.remaining bs fit (Ok r.0) (sym r.1); allows = not-prevented s m o r.0 r.1 }
 
 -- Takes
@@ -141,7 +142,7 @@ legs_take m₀ m side u (g ∷ gs) d h =
     leg_takes m side u g (used_level m₀ q g).price (map (leg_fill m₀ q) gs) (legs_taken (leg_taken m q u g) q u gs) h.0
     (legs_take m₀ (leg_taken m q u g) side u gs d.1 (still_shown m₀ m q u g gs d.0 h.1))
 
-pub fill_takes : (m : Levels) (o : Terms) (remaining : ℕ) (f : Filling) → 0 < remaining → Filled m o remaining f → LegsTake m o.side f.units f.legs (legs_taken m (taken_side o.side) f.units o.legs)
+pub fill_takes : (m : Levels) (o : Terms) (remaining : ℕ) (f : Filling) → 0 < remaining → IsFilling m o remaining f → LegsTake m o.side f.units f.legs (legs_taken m (taken_side o.side) f.units o.legs)
 fill_takes m o remaining f some k =
     let q : QuoteSide = taken_side o.side in
     let both = and_parts (distinct o.legs) (all_ready m q f.units o.legs) (k.takeable (k.some some)) in

@@ -19,9 +19,11 @@ use Rattle.orders.specs.Checks.{check, map_ok}
 use Rattle.orders.specs.Faults.{number_of}
 use Rattle.orders.specs.SoundLegs.{sound}
 use Rattle.book.specs.Resting.{Resting}
-use Rattle.fills.specs.Fills.{Filling, taken_side, fill_at, quoted}
-use Rattle.fills.specs.FillLaws.{Reaches as ReachesNet}
-use Rattle.fills.proofs.Quotes.{at_net, filled, banded}
+use Rattle.fills.specs.Fills.{taken_side}
+use Rattle.fills.specs.Fillings.{Filling, filling_at, filling}
+use Rattle.fills.specs.FillingLaws.{ReachesNet}
+use Rattle.fills.proofs.Quotes.{banded}
+use Rattle.fills.proofs.Fillings.{at_net, filled}
 use Rattle.days.specs.declared.call.Call.TheVariants as call
 use Rattle.days.specs.declared.reply.Reply.{Reply}
 use Rattle.days.specs.State.{State, Line, in_force}
@@ -97,7 +99,7 @@ module _ (h : List Event) (s : State) (k : Orders h s.last s.order s.tape) (noti
     own = resting_as n x o.remaining
 
     abbrev quote : Result Filling GateFault
-    quote = quoted m (terms_in own) o.remaining bs
+    quote = filling m (terms_in own) o.remaining bs
 
     -- in the terms in which it was accepted
     comes_to : working s m (pos n) ≡ map_ok (line_for own (length s.notices)) quote
@@ -111,7 +113,7 @@ module _ (h : List Event) (s : State) (k : Orders h s.last s.order s.tape) (noti
       stops = prevented_of x.strategy.class x.strategy.width (side_of x) net bs
 
       abbrev fill : Filling
-      fill = fill_at m (terms_in own) o.remaining net
+      fill = filling_at m (terms_in own) o.remaining net
 
       abbrev line : Line
       line = line_for own (length s.notices) fill

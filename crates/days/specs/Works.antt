@@ -12,7 +12,8 @@ use Rattle.orders.specs.declared.fault.GateFault.TheVariants as gate
 use Rattle.orders.specs.Checks.{check, map_ok}
 use Rattle.orders.specs.TurnedTerms.{Terms}
 use Rattle.book.specs.Resting.{Resting, put, reduced, leaving}
-use Rattle.fills.specs.Fills.{Filling, taken_side, quoted}
+use Rattle.fills.specs.Fills.{taken_side}
+use Rattle.fills.specs.Fillings.{Filling, filling}
 use Rattle.days.specs.State.{State, Line, tape_full, in_force, lookup, with_orders, with_tape}
 
 abbrev pub is_open : Phase → Bool
@@ -32,7 +33,7 @@ line_for o notice f = record { number = o.number; class = o.class; side = o.side
 
 -- what a resting order draws from a market, by the buffers in force
 abbrev pub matched : State → Levels → Resting → Result Line GateFault
-matched s m o = map_ok (line_for o (length s.notices)) (quoted m (terms_in o) o.remaining (in_force s.notices))
+matched s m o = map_ok (line_for o (length s.notices)) (filling m (terms_in o) o.remaining (in_force s.notices))
 
 abbrev pub when_resting : Option Resting → (Resting → Result Line GateFault) → Result Line GateFault
 when_resting None next = Err gate.NotResting

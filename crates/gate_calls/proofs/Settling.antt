@@ -12,9 +12,10 @@ use Rattle.orders.specs.TurnedTerms.{terms_of}
 use Rattle.book.specs.declared.order.RestingOrder.{RestingOrder}
 use Rattle.book.specs.Resting.{Resting, put, reduced, leaving, one, resting_of}
 use Rattle.fills.specs.declared.fill.Fill.{Fill}
-use Rattle.fills.specs.Fills.{taken_side, filling_of, quoted}
-use Rattle.fills.specs.FillLaws.{Filled}
-use Rattle.fills.proofs.Quotes.{filled}
+use Rattle.fills.specs.Fills.{taken_side}
+use Rattle.fills.specs.Fillings.{filling_of, filling}
+use Rattle.fills.specs.FillingLaws.{IsFilling}
+use Rattle.fills.proofs.Fillings.{filled}
 use Rattle.fills.proofs.Units.{after_takes}
 use Rattle.days.specs.declared.tape.TapeLine.{TapeLine}
 use Rattle.days.specs.State.{State, Line, line_of, in_force, lookup, with_orders}
@@ -50,7 +51,7 @@ pub taken_from_lem : (s : State) (m after : Levels) (o : RestingOrder) (f : Fill
     → q ≡ taken_side o.terms.side → given ≡ o.terms.legs.legs
     → after ≡ cond (can_take_legs m q f.units (listed given)) (legs_taken m q f.units (listed given)) m → after ≡ filled_from s m (line_with s o f)
 taken_from_lem s m after o f q given held fits side legs takes =
-    let has : Filled m (terms_of o.terms) o.remaining (filling_of f) = filled m (terms_of o.terms) o.remaining (in_force s.notices) o.terms.legs.sound (Ok (filling_of f)) (sym fits) in
+    let has : IsFilling m (terms_of o.terms) o.remaining (filling_of f) = filled m (terms_of o.terms) o.remaining (in_force s.notices) o.terms.legs.sound (Ok (filling_of f)) (sym fits) in
     after_takes m after (taken_side o.terms.side) q f.units o.terms.legs.legs given o.terms.legs.sound has.shown side legs takes
     ∙ ap (λ v. legs_taken m (taken_side o.terms.side) f.units (legs_of v)) (sym held)
 

@@ -18,7 +18,7 @@ use Rattle.orders.specs.TurnedTerms.{Terms, turned_terms}
 use Rattle.book.specs.declared.order.RestingOrder.{RestingOrder}
 use Rattle.book.specs.Resting.{Resting, resting_of}
 use Rattle.fills.specs.declared.fill.Fill.{Fill}
-use Rattle.fills.specs.Fills.{filling_of}
+use Rattle.fills.specs.Fillings.{filling_of}
 use Rattle.days.specs.declared.call.Call.{Call}
 use Rattle.days.specs.declared.reply.Reply.{Reply}
 use Rattle.days.specs.declared.reply.Reply.TheVariants as reply

@@ -8,9 +8,9 @@ use Rattle.orders.specs.declared.fault.GateFault.TheVariants.{NotResting}
 use Rattle.orders.specs.Checks.{map_ok}
 use Rattle.orders.proofs.Checked.{err_ok}
 use Rattle.book.specs.declared.order.RestingOrder.{RestingOrder}
-use Rattle.book.specs.Resting.{Resting, Next, resting_of}
+use Rattle.book.specs.Resting.{Resting, NextOrder, resting_of}
 use Rattle.fills.specs.declared.fill.Fill.{Fill}
-use Rattle.fills.specs.Fills.{filling_of}
+use Rattle.fills.specs.Fillings.{filling_of}
 use Rattle.days.specs.State.{State, Line, tape_full}
 use Rattle.days.specs.Works.{line_for, matched, when_resting, candidate, filled_in, filled_from, Idle, Sweeps, volume}
 use Rattle.gate_calls.specs.Promises.{quoted_for, line_with, Matches, Settles}
@@ -28,7 +28,7 @@ module _ (s : State) (m : Levels) where
   is_candidate o f held fits = ap (λ v. when_resting v (matched s m)) held ∙ ap (map_ok (line_for (resting_of o) (length s.notices))) fits
 
   -- one order more that would not fill
-  pub idle_more : (n : ℕ) (o : RestingOrder) (r : GateFault) → ((k : ℕ) → k ≤ n → Idle s m k) → Next s.order n (resting_of o) → quoted_for s m o ≡ Err r → (k : ℕ) → k ≤ o.number → Idle s m k
+  pub idle_more : (n : ℕ) (o : RestingOrder) (r : GateFault) → ((k : ℕ) → k ≤ n → Idle s m k) → NextOrder s.order n (resting_of o) → quoted_for s m o ≡ Err r → (k : ℕ) → k ≤ o.number → Idle s m k
   idle_more n o r below next stop k le =
       ⊎_elim
       (λ same. subst (Idle s m) (sym same) (idle_refused o r next.rests stop))
@@ -41,7 +41,7 @@ module _ (s : State) (m : Levels) where
   pub idle_all : (n : ℕ) → ((k : ℕ) → k ≤ n → Idle s m k) → ((k : ℕ) → n < k → s.order k ≡ None) → (k : ℕ) → Idle s m k
   idle_all n below none k = ⊎_elim (λ past. idle_none k (none k past)) (λ low. below k low) (cases_lt n k)
 
-  pub first_found : (n : ℕ) (o : RestingOrder) (f : Fill) → ((k : ℕ) → k ≤ n → Idle s m k) → Next s.order n (resting_of o) → quoted_for s m o ≡ Ok (filling_of f) → Matches s m o f
+  pub first_found : (n : ℕ) (o : RestingOrder) (f : Fill) → ((k : ℕ) → k ≤ n → Idle s m k) → NextOrder s.order n (resting_of o) → quoted_for s m o ≡ Ok (filling_of f) → Matches s m o f
   first_found n o f below next fits = record {
     held = next.rests;
     fits = fits;

@@ -14,7 +14,7 @@ use Rattle.listing.specs.Resolving.{resolving}
 use Rattle.book.specs.declared.order.RestingOrder.{RestingOrder}
 use Rattle.book.specs.Resting.{resting_of}
 use Rattle.fills.specs.declared.fill.Fill.{Fill}
-use Rattle.fills.specs.Fills.{Filling, filling_of, quoted}
+use Rattle.fills.specs.Fillings.{Filling, filling_of, filling}
 use Rattle.days.specs.declared.reply.Tally.{Tally}
 use Rattle.days.specs.State.{State, Line, in_force}
 use Rattle.days.specs.Verdicts.{and_then, carried}
@@ -36,7 +36,7 @@ netting s legs m = and_then (carried (checked_legs legs)) (λ gs. map_ok (λ _. 
 
 -- what a resting order would get now, by the buffers in force
 abbrev pub quoted_for : State → Levels → RestingOrder → Result Filling GateFault
-quoted_for s m o = quoted m (terms_of o.terms) o.remaining (in_force s.notices)
+quoted_for s m o = filling m (terms_of o.terms) o.remaining (in_force s.notices)
 
 -- the tape line of a resting order's fill
 abbrev pub line_with : State → RestingOrder → Fill → Line

@@ -2,7 +2,7 @@
 ghost use Rattle.std.specs.Prelude.{◌≡◌, true, false, pos, IfSome, Some, Ok};
 ghost use Rattle.orders.specs.Checks.{map_ok};
 ghost use Rattle.book.specs.Resting.{rest, resting_of};
-ghost use Rattle.fills.specs.Fills.{filling_of};
+ghost use Rattle.fills.specs.Fillings.{filling_of};
 ghost use Rattle.days.specs.State.{line_of, tape_full, lookup};
 ghost use Rattle.days.specs.Works.{is_open, line_for};
 ghost use Rattle.days.specs.declared.reply.Reply.TheVariants as told;
@@ -134,7 +134,7 @@ impl Gate<'_> {
         ensures { FirstMatch (state self.now) (M.levels market.now) result }
     {
         let mut above = 0;
-        while let Some(order) = self.book.next_above(above) {
+        while let Some(order) = self.book.order_above(above) {
             if let Ok(fill) = self.quote(&order, market) {
                 return Some(MatchedOrder { order, fill });
             }

@@ -2,7 +2,7 @@ use Rattle.std.proofs.Common.{◌≡◌, sym, ap, ◌∙◌, subst, w32}
 use mir.ValLaws.{to_z-of_z}
 use Rattle.std.proofs.lemmas.Result.{err_from_is_err_and}
 use Rattle.orders.specs.Checks.{map_ok}
-use Rattle.fills.specs.Fills.{filling_of}
+use Rattle.fills.specs.Fillings.{filling_of}
 use Rattle.days.specs.declared.reply.Execution.{Execution}
 use Rattle.days.specs.declared.reply.Reply.TheVariants as told
 use Rattle.days.specs.State.{lookup}

@@ -2,7 +2,7 @@ use Rattle.std.proofs.Common.{ap, ◌∙◌}
 use Rattle.lent.specs.Items.{items, room}
 use Rattle.book.specs.Resting.{resting_of}
 use Rattle.book.specs.Books.{resting, count, last}
-use Rattle.fills.specs.Fills.{filling_of}
+use Rattle.fills.specs.Fillings.{filling_of}
 use Rattle.days.specs.Works.{line_for}
 use Rattle.gate_calls.specs.Model.{state}
 use Rattle.gate_calls.specs.Promises.{line_with}
