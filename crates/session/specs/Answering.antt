@@ -1,19 +1,24 @@
 -- What is done with a line, and what is answered.
-use Rattle.std.specs.Prelude.{◌≡◌, ℕ, List, take, ℤ, Some, None, Ok, Err, Option, Result, MatchResult}
+use Rattle.std.specs.Prelude.{◌≡◌, ℕ, true, List, take, ℤ, Some, None, Ok, Err, Option, Result, MatchResult}
 use Rattle.lines.specs.declared.fault.LineFault.{LineFault}
 use Rattle.lines.specs.declared.fault.LineFault.TheVariants.{Unknown}
 use Rattle.line_writer.specs.Areas.{Written}
 use Rattle.answers.specs.declared.answer.Answer.{Answer}
 use Rattle.answers.specs.declared.answer.Answer.TheVariants as answer
 use Rattle.answers.specs.Said.{said, refusal}
+use Rattle.answers.specs.declared.words.Outcome.{Outcome}
+use Rattle.answers.specs.declared.words.Outcome.TheVariants.{Done, Full}
 use Rattle.commands.specs.declared.command.Command.{Command}
 use Rattle.commands.specs.declared.command.Command.TheVariants.{Series, Notice, Quote, Level, Enter, Phase, Cancel, Work, Sweep, Net}
 use Rattle.commands.specs.Understood.{Answered}
+use Rattle.commands.specs.declared.command.Feed.{Feed}
 use Rattle.market.specs.declared.quote.TwoSided.{TwoSided}
 use Rattle.market.specs.declared.quote.MarketFault.{MarketFault}
 use Rattle.orders.specs.declared.fault.GateFault.{GateFault}
 use Rattle.orders.specs.declared.fault.GateFault.TheVariants as gate
 use Rattle.orders.specs.declared.records.LegList.{LegList}
+use Rattle.orders.specs.declared.outcome.Outcome as ended
+use Rattle.orders.specs.declared.outcome.Outcome.TheVariants as end
 use Rattle.days.specs.declared.call.Call.{Call}
 use Rattle.days.specs.declared.call.Call.TheVariants as call
 use Rattle.days.specs.declared.reply.Reply.{Reply}
@@ -26,6 +31,11 @@ use Rattle.session.specs.Views.{View}
 
 -- Answers
 
+-- how a sweep ended, as an answer says it
+abbrev pub outcome_of : ended.Outcome → Outcome
+outcome_of end.Done = Done
+outcome_of end.Full = Full
+
 abbrev pub answer_of : Reply → Answer
 answer_of (reply.Series n) = answer.Series n
 answer_of (reply.Notice n) = answer.Notice n
@@ -33,7 +43,7 @@ answer_of (reply.Phase bell units) = answer.Phase bell units
 answer_of (reply.Order x) = answer.Order x.number x.class
 answer_of (reply.Cancel units) = answer.Cancel units
 answer_of (reply.Work x) = answer.Work x.units x.net
-answer_of (reply.Sweep x) = answer.Sweep x.lines x.units x.outcome
+answer_of (reply.Sweep x) = answer.Sweep x.lines x.units (outcome_of x.outcome)
 answer_of (reply.Refused f) = gate_refusal f
 
 -- a line of another market is none that is known
@@ -84,12 +94,16 @@ Obeys (Work n) x a y = Makes (call.Work n) x a y
 Obeys Sweep x a y = Makes call.Sweep x a y
 Obeys (Net legs) x a y = Nets legs x a y
 
+-- a session reads the lines of every market; that of another market is refused when it is obeyed
+abbrev pub every : Feed
+every = record { quotes = true; levels = true }
+
 -- The line is a command, which is obeyed, or it is refused, and nothing is changed.
 pub record Does (x : View) (line : List ℕ) (a : Answer) (y : View) : Type 0 where
   pub read : Result Command LineFault
-  pub answered : Answered line read
+  pub answered : Answered every line read
   -- of a longer line the first 513 bytes are enough
-  pub cut : (whole : List ℕ) → line ≡ take 513 whole → Answered whole read
+  pub cut : (whole : List ℕ) → line ≡ take 513 whole → Answered every whole read
   pub done : MatchResult read (λ c. Obeys c x a y) (λ f. Unchanged x y × (a ≡ refusal f))
 
 -- the bytes of the answer stand in the area, and n is their number

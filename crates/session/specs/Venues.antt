@@ -10,7 +10,7 @@ use Rattle.market.specs.declared.quote.MarketFault.{MarketFault}
 use Rattle.market.specs.Levels.{Levels}
 use Rattle.orders.specs.declared.records.QuoteTerms.{QuoteTerms}
 use Rattle.orders.specs.declared.records.LevelTerms.{LevelTerms}
-use Rattle.orders.specs.Checks.{map_ok}
+use Rattle.orders.specs.Checks.{map_ok, amount}
 use Rattle.venues.specs.declared.board.Board.{Board}
 use Rattle.venues.specs.declared.ladder.Ladder.{Ladder}
 use Rattle.venues.specs.Boards.{board_levels}
@@ -52,7 +52,7 @@ quote_numbers x = quote_of 255 x.series x.bid_price x.bid_size x.offer_price x.o
 
 abbrev pub answer_quote : Option QuoteTerms → Option (Result Answer MarketFault)
 answer_quote None = None
-answer_quote (Some x) = Some (map_ok (λ _. answer.Quote x.series) (quote_answer (quote_numbers x)))
+answer_quote (Some x) = Some (map_ok (λ _. answer.Quote (amount x.series)) (quote_answer (quote_numbers x)))
 
 abbrev pub take_quote : Levels → Option QuoteTerms → Levels
 take_quote m None = m
@@ -72,7 +72,7 @@ level_numbers x = level_call 15 x.series x.price x.size
 
 abbrev pub answer_level : Levels → Option LevelTerms → Option (Result Answer MarketFault)
 answer_level m None = None
-answer_level m (Some x) = Some (map_ok (λ _. answer.Level x.series) (level_answer m x.side (level_numbers x)))
+answer_level m (Some x) = Some (map_ok (λ _. answer.Level (amount x.series)) (level_answer m x.side (level_numbers x)))
 
 abbrev pub take_level : Levels → Option LevelTerms → Levels
 take_level m None = m

@@ -47,9 +47,9 @@ impl SessionFault {
         match self {
             SessionFault::Line(fault) => Answer::of_line_fault(fault),
             SessionFault::Gate(fault) => Answer::Refused {
-                number: fault.number(),
+                number: u32::from(fault.number()),
                 layer: fault.layer(),
-                place: usize::from(fault.place()),
+                place: u64::from(fault.place()),
             },
         }
     }

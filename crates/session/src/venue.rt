@@ -4,6 +4,7 @@ ghost use Rattle.answers.specs.declared.answer.Answer.{Answer};
 ghost use Rattle.commands.specs.declared.command.Command.{Command};
 ghost use Rattle.market.specs.declared.quote.MarketFault.{MarketFault};
 ghost use Rattle.market.specs.Levels.{Levels};
+ghost use Rattle.orders.specs.Checks.{amount};
 ghost use Rattle.session.specs.Venues.{board_answer, board_after, ladder_answer, ladder_after};
 
 use answers::answer::Answer;
@@ -26,6 +27,13 @@ pub trait Venue: Market {
         ensures after { Self.Market.levels self.new ≡ after self.old command };
 }
 
+// The number of a series that a market took in, as an answer has it.
+fn series_number(series: i32) -> u32
+    ensures { result ≡ amount series }
+{
+    if series < 0 { 0 } else { series as u32 }
+}
+
 // A board takes in quotes.
 impl Venue for Board {
     ghost updated = { λ _ c. board_answer c };
@@ -43,7 +51,7 @@ impl Venue for Board {
             terms.offer_price,
             terms.offer_size,
         ) {
-            Ok(()) => Some(Ok(Answer::Quote(terms.series))),
+            Ok(()) => Some(Ok(Answer::Quote(series_number(terms.series)))),
             Err(fault) => Some(Err(fault)),
         }
     }
@@ -60,7 +68,7 @@ impl Venue for Ladder {
             return None;
         };
         match self.level(terms.series, terms.side, terms.price, terms.size) {
-            Ok(()) => Some(Ok(Answer::Level(terms.series))),
+            Ok(()) => Some(Ok(Answer::Level(series_number(terms.series)))),
             Err(fault) => Some(Err(fault)),
         }
     }

@@ -3,7 +3,7 @@ ghost use Rattle.std.specs.Prelude.{◌≡◌, MatchResult};
 ghost use Rattle.line_writer.specs.Areas.{TooSmall};
 ghost use Rattle.gate_calls.specs.Model.{state};
 ghost use Rattle.gate_calls.specs.Promises.{netting};
-ghost use Rattle.session.specs.Answering.{told, told_by, answer_of, net_answer, Makes, Updates, Obeys, Does, Answers};
+ghost use Rattle.session.specs.Answering.{told, told_by, outcome_of, answer_of, net_answer, Makes, Updates, Obeys, Does, Answers};
 ghost use Rattle.session.specs.Days.{HandsOn};
 ghost use Rattle.session.specs.Views.{view};
 
@@ -11,7 +11,8 @@ use super::Session;
 use crate::fault::SessionFault;
 use crate::venue::Venue;
 use answers::answer::Answer;
-use commands::command::Command;
+use answers::words::Outcome as SaidOutcome;
+use commands::command::{Command, Feed};
 use commands::line::read_line;
 use days::call::Call;
 use days::reply::Reply;
@@ -19,29 +20,59 @@ use gate_calls::gate::Gate;
 use line_writer::line::CAPACITY;
 use lines::fault::LineFault;
 use orders::fault::GateFault;
+use orders::outcome::Outcome;
 use orders::records::LegList;
+
+// The lines of every market.
+const EVERY: Feed = Feed {
+    quotes: true,
+    levels: true,
+};
+
+// How a sweep ended, as an answer says it.
+fn said_outcome(outcome: Outcome) -> SaidOutcome
+    ensures { result ≡ outcome_of outcome }
+{
+    match outcome {
+        Outcome::Done => SaidOutcome::Done,
+        Outcome::Full => SaidOutcome::Full,
+    }
+}
+
+// A net price, as an answer says it.
+fn cents(price: Option<i32>) -> Option<i64>
+    ensures { result ≡ price }
+{
+    match price {
+        Some(price) => Some(i64::from(price)),
+        None => None,
+    }
+}
 
 // The answer to a call; a refusal goes up.
 fn answer_of(reply: Reply) -> Result<Answer, GateFault>
     ensures { told_by result ≡ answer_of reply }
 {
     match reply {
-        Reply::Series(number) => Ok(Answer::Series(number)),
-        Reply::Notice(number) => Ok(Answer::Notice(number)),
-        Reply::Phase(bell, units) => Ok(Answer::Phase { bell, units }),
+        Reply::Series(number) => Ok(Answer::Series(u32::from(number))),
+        Reply::Notice(number) => Ok(Answer::Notice(u32::from(number))),
+        Reply::Phase(bell, units) => Ok(Answer::Phase {
+            bell,
+            units: u64::from(units),
+        }),
         Reply::Order(acceptance) => Ok(Answer::Order {
-            number: acceptance.number,
+            number: u32::from(acceptance.number),
             class: acceptance.class,
         }),
-        Reply::Cancel(units) => Ok(Answer::Cancel(units)),
+        Reply::Cancel(units) => Ok(Answer::Cancel(u64::from(units))),
         Reply::Work(execution) => Ok(Answer::Work {
-            units: execution.units,
-            net: execution.net,
+            units: u64::from(execution.units),
+            net: i64::from(execution.net),
         }),
         Reply::Sweep(tally) => Ok(Answer::Sweep {
-            lines: tally.lines,
-            units: tally.units,
-            outcome: tally.outcome,
+            lines: u32::from(tally.lines),
+            units: u64::from(tally.units),
+            outcome: said_outcome(tally.outcome),
         }),
         Reply::Refused(fault) => Err(fault),
     }
@@ -89,8 +120,8 @@ impl<'a, V: Venue> Session<'a, V> {
     {
         let net = self.gate.net(legs, &self.venue)?;
         Ok(Answer::Net {
-            bid: net.bid,
-            offer: net.offer,
+            bid: cents(net.bid),
+            offer: cents(net.offer),
         })
     }
 
@@ -115,7 +146,7 @@ impl<'a, V: Venue> Session<'a, V> {
         ensures does { Does (view V.Market.levels V.Venue.updated V.Venue.after self.old) line.now (told result) (view V.Market.levels V.Venue.updated V.Venue.after self.new) }
         ensures law { HandsOn (view V.Market.levels V.Venue.updated V.Venue.after self.old) (view V.Market.levels V.Venue.updated V.Venue.after self.new) }
     {
-        let command = read_line(line)?;
+        let command = read_line(line, EVERY)?;
         self.obey(command)
     }
 
