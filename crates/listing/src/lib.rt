@@ -1,3 +1,4 @@
 // The table of listed series.
 #![tactic(auto)]
+
 pub mod table;

@@ -1,6 +1,5 @@
 use Rattle.std.proofs.lemmas.Bool.{eq-eqb, ne_eqb}
-use Rattle.orders.specs.Orders.{names}
-use Rattle.orders.proofs.LegChecks.{leg_at, any_stop, any_more, any_end}
+use Rattle.orders.proofs.LegChecks.{any_stop, any_more, any_end}
 use Rattle.orders.proofs.conditions.names.Goals as goal
 
 pub returns-then-leg-series : goal.returns-then-leg-series

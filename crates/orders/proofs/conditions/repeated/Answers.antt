@@ -1,4 +1,4 @@
-use Rattle.std.proofs.Common.{◌≡◌, true, false, map, take, sym, ◌∙◌, rules}
+use Rattle.std.proofs.Common.{◌≡◌, true, false, map, take, sym, rules}
 use Rattle.orders.specs.Orders.{names}
 use Rattle.orders.proofs.LegChecks.{leg_at, repeated_stop, repeated_more, repeated_end}
 use Rattle.orders.proofs.conditions.repeated.Goals as goal

@@ -1,4 +1,4 @@
-use Rattle.std.proofs.Common.{length, get_or, take, sym, ap, ◌∙◌, arith}
+use Rattle.std.proofs.Common.{get_or, take, sym, ap, ◌∙◌, arith}
 use Rattle.std.proofs.lemmas.List.{get_or-take, get_or_past, length-take-le}
 use Rattle.listing.specs.Listing.{no_series}
 use Rattle.listing.proofs.table.SeriesTable.series_of.Goals as goal
