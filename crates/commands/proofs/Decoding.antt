@@ -1,5 +1,5 @@
 -- The command that parts say, computed from them: so they say at most one.
-use Rattle.std.proofs.Common.{◌≡◌, ℕ, ◌+◌, ◌*◌, cond, eqb, List, [], ◌∷◌, ◌++◌, get_or, drop, ℤ, pos, Some, None, Option, sym, refl, ap, ◌∙◌}
+use Rattle.std.proofs.Common.{◌≡◌, ℕ, cond, eqb, List, [], ◌∷◌, get_or, drop, ℤ, pos, Some, None, Option, sym, refl, ap, ◌∙◌}
 use Rattle.strategy.specs.declared.leg.Side.{Side}
 use Rattle.strategy.specs.declared.leg.Side.TheVariants.{Buy, Sell}
 use Rattle.strategy.specs.declared.leg.Kind.{Kind}
@@ -19,8 +19,8 @@ use Rattle.orders.specs.declared.records.LegList.{LegList}
 use Rattle.orders.specs.declared.records.Channel.{Channel}
 use Rattle.orders.specs.declared.records.Channel.TheVariants.{Plain, Exempt}
 use Rattle.orders.specs.declared.records.OrderTerms.{OrderTerms}
-use Rattle.commands.specs.Commands.{series_parts, notice_parts, quote_parts, level_parts, order_parts, Says}
-use Rattle.commands.specs.Legs.{leg_parts, legs_parts}
+use Rattle.commands.specs.Commands.{series_parts, level_parts, order_parts, Says}
+use Rattle.commands.specs.Legs.{legs_parts}
 use Rattle.commands.specs.Parts.{Part, word, number, opens, closes}
 use Rattle.commands.specs.Words.{side_name, quote_side_name, kind_name, channel_name}
 use Rattle.commands.specs.declared.command.Command.{Command}

@@ -1,5 +1,5 @@
 -- Which command some parts say.
-use Rattle.std.proofs.Common.{◌≡◌, ℕ, List, [], ◌∷◌, ◌++◌, ℤ, Some, None, codes, Option, sym, refl, ap, ◌∙◌, subst, arith}
+use Rattle.std.proofs.Common.{◌≡◌, ℕ, List, ◌∷◌, ◌++◌, ℤ, Some, None, codes, Option, sym, ◌∙◌, subst, arith}
 use Rattle.commands.specs.Commands.{Says, OrderSays, limit_parts}
 use Rattle.commands.specs.Legs.{legs_parts}
 use Rattle.commands.specs.Parts.{Part, word, number}

@@ -1,5 +1,5 @@
 -- The parts of a line, without their columns, that are still to be read.
-use Rattle.std.specs.Prelude.{ℕ, List, [], ◌∷◌, map, ℤ}
+use Rattle.std.specs.Prelude.{ℕ, List, map, ℤ}
 use Rattle.lines.specs.declared.cursor.Cursor.{Cursor}
 use Rattle.lines.specs.declared.cursor.Token.{Token}
 use Rattle.lines.specs.Cursors.{left}

@@ -1,5 +1,6 @@
 // The commands that lines stand for.
 #![tactic(auto)]
+
 pub mod command;
 mod fields;
 mod forms;

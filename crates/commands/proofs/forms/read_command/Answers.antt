@@ -5,10 +5,10 @@ use Rattle.commands.proofs.Sayings.{headless, no_enter}
 use Rattle.commands.proofs.forms.read_command.Goals as goal
 
 pub returns-in_err-next_keyword : goal.returns-in_err-next_keyword
-returns-in_err-next_keyword c = rw c.from-residual.ensures (headless (rest c.args.from.now) c.in_err-next_keyword.ensures)
+returns-in_err-next_keyword c = rw c.from_residual.ensures (headless (rest c.args.from.now) c.in_err-next_keyword.ensures)
 
-pub returns-in_err-read_order : goal.returns-in_err-read_order
-returns-in_err-read_order c = rw c.from-residual-in_err-read_order.ensures
+pub returns-in_err-read_order-in-Enter : goal.returns-in_err-read_order-in-Enter
+returns-in_err-read_order-in-Enter c = rw c.from_residual-in_err-read_order-in-Enter.ensures
     (no_enter (rest c.args.from.now) (rest c.next_keyword.new.from)
     (c.in_ok-next_keyword.ensures ∙ ap (λ h. word (head_name h) ∷ rest c.next_keyword.new.from) c.in-Enter.is)
-    c.in_err-read_order.ensures)
+    c.in_err-read_order-in-Enter.ensures)

@@ -44,7 +44,7 @@ pub returns-in_err-from : goal.returns-in_err-from
 returns-in_err-from c =
     let opened = c.in_err-from.ensures in
     let fault = c.in_err-from.field-0.0 in
-    let p = err_from_is_err_and c.from-residual.result c.from-residual.ensures.1 in
+    let p = err_from_is_err_and c.from_residual.result c.from_residual.ensures.1 in
     rw (p.1 ∙ ap Err p.2)
     (all c.args.feed c.args.line.now (Err fault)
     (declines c.args.feed c.args.line.now fault opened.answer)
