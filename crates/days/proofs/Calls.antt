@@ -1,7 +1,7 @@
 -- What one call adds to the laws.
 use Rattle.std.proofs.Common.{◌≡◌, ℕ, ◌+◌, ◌≤◌, false, cond, not, eqb, leb, ◌⊎◌, List, [], ◌∷◌, ◌++◌, length, ℤ, pos, negsuc, IfSome, Some, None, Ok, Option, sym, refl, ap, ◌∙◌, subst, inl, inr, ⊎_elim, arith}
 use Rattle.book.specs.Resting.{open_units as units_open}
-use Rattle.std.specs.List.{AllByRecursion as All}
+use Rattle.std.specs.List.{AllByRecursion}
 use Rattle.std.proofs.lemmas.List.{append-nil}
 use Rattle.std.proofs.lemmas.Option.{MatchOption-at_some}
 use Rattle.std.proofs.lemmas.Bool.{both_ways, not-true, cases_eq, cases_Bool, cond-true, cond-false, cond_both, eq-eqb, ne_eqb, leb-false}
@@ -62,7 +62,7 @@ pub record Said (h : List Event) (e : Event) (t : State) : Type 0 where
   pub core : Core (e ∷ h) t
   pub guarded : Guarded h e
   pub tape : t.tape ≡ e.before.tape ++ e.fills
-  pub owned : All (Owned h) e.fills
+  pub owned : AllByRecursion (Owned h) e.fills
   pub takes : Takes e.market e.fills e.left
 
 -- Calls that they do not concern
@@ -262,7 +262,7 @@ module _ (h : List Event) (s : State) (k : Core h s) (a : Reply) (m m' : Levels)
     core = subst (Core (by c ∷ h)) (sym effect) core;
     guarded = g;
     tape = nothing_more t.tape s.tape fs (ap (λ (x : State). x.tape) effect ∙ tape) none;
-    owned = subst (All (Owned h)) (sym none) tt;
+    owned = subst (AllByRecursion (Owned h)) (sym none) tt;
     takes = subst (λ l. Takes m l m') (sym none) same;
   }
 

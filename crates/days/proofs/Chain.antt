@@ -1,7 +1,7 @@
 -- Some fills, one after the other.
 use Rattle.std.proofs.Common.{◌≡◌, ℕ, ◌≤◌, true, false, List, [], ◌∷◌, ◌++◌, map, length, ℤ, ◌≤ℤ◌, Some, None, Ok, Option, Result, sym, refl, ap, ◌∙◌, subst, arith}
 use lib.Signed.{lt_z}
-use Rattle.std.specs.List.{AllByRecursion as All}
+use Rattle.std.specs.List.{AllByRecursion}
 use Rattle.std.proofs.lemmas.List.{append-nil, append_assoc}
 use Rattle.std.proofs.lemmas.Int.{ints}
 use Rattle.std.proofs.lemmas.Bool.{both_ways}
@@ -126,7 +126,7 @@ pub lines_tape : (s : State) (m : Levels) (fs : List Line) (t : State) (m' : Lev
 lines_tape s m [] t m' (same, still) = ap (λ (x : State). x.tape) same ∙ sym (append-nil s.tape)
 lines_tape s m (f ∷ fs) t m' (o, held, e, rest) = lines_tape (filled_in s f) (filled_from s m f) fs t m' rest ∙ append_assoc s.tape (f ∷ []) fs
 
-pub lines_owned : (h : List Event) (s : State) (m : Levels) (fs : List Line) (t : State) (m' : Levels) → Core h s → Lines s m fs t m' → All (Owned h) fs
+pub lines_owned : (h : List Event) (s : State) (m : Levels) (fs : List Line) (t : State) (m' : Levels) → Core h s → Lines s m fs t m' → AllByRecursion (Owned h) fs
 lines_owned h s m [] t m' k d = tt
 lines_owned h s m (f ∷ fs) t m' k (o, held, e, rest) =
     (fill_owned h s m f o k held e, lines_owned h (filled_in s f) (filled_from s m f) fs t m' (fill_core h s m f o k held e) rest)

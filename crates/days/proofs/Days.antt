@@ -1,6 +1,6 @@
 -- Every day keeps the laws: an induction over its calls.
 use Rattle.std.proofs.Common.{◌≡◌, ◌+◌, List, [], ◌∷◌, ◌++◌, sym, refl, ap, ◌∙◌, arith}
-use Rattle.std.specs.List.{AllByRecursion as All}
+use Rattle.std.specs.List.{AllByRecursion}
 use Rattle.market.specs.Levels.{Levels}
 use Rattle.book.specs.Resting.{one, resting_up_to}
 use Rattle.days.specs.declared.call.Call.{Call}
@@ -36,7 +36,7 @@ record Kept (h : List Event) (s : State) : Type 0 where
   limits : Each LimitHeld h
   prevention : Each PreventionHeld h
   tape : s.tape ≡ written h
-  owned : Each (λ g e. All (Owned g) e.fills) h
+  owned : Each (λ g e. AllByRecursion (Owned g) e.fills) h
   takes : Each (λ g e. Takes e.market e.fills e.left) h
 
 kept : (h : List Event) (s : State) → Leads h s → Kept h s

@@ -1,6 +1,6 @@
 -- What a fill takes, and at what price.
 use Rattle.std.proofs.Common.{◌≡◌, ℕ, zero, suc, ◌*◌, ◌<◌, Bool, true, false, not, ltb, leb, ◌⊎◌, List, [], ◌∷◌, map, length, ℤ, pos, ◌+ℤ◌, nat_abs, Some, None, Ok, Err, Option, Result, sym, refl, ap, ◌∙◌, subst, inl, inr, ⊎_elim, zero-mul, arith, lit<}
-use Rattle.std.specs.List.{AllByRecursion as All}
+use Rattle.std.specs.List.{AllByRecursion}
 use Rattle.std.proofs.lemmas.Bool.{and_parts, cases_Bool, leb-true, ltb-true, not-true}
 use Rattle.strategy.specs.declared.leg.Side.{Side}
 use Rattle.strategy.specs.declared.leg.Side.TheVariants.{Buy, Sell}
@@ -99,7 +99,7 @@ first_shows : (ls : List Level) (n : ℕ) → can_take ls n ≡ true → FirstSh
 first_shows [] n e = let z : ◌≡◌ {A = ℕ} 0 1 = cc in omega arith
 first_shows (v ∷ vs) n e = let p = and_parts (ltb 0 n) (leb n v.size) e in (refl, ltb-true 0 n p.0, leb-true n v.size p.1)
 
-all_shown : (m : Levels) (q : QuoteSide) (u : ℕ) (gs : List TradedLeg) → all_ready m q u gs ≡ true → All (Shown m m q u) gs
+all_shown : (m : Levels) (q : QuoteSide) (u : ℕ) (gs : List TradedLeg) → all_ready m q u gs ≡ true → AllByRecursion (Shown m m q u) gs
 all_shown m q u [] e = tt
 all_shown m q u (g ∷ gs) e =
     let p = and_parts (leg_ready m q u g) (all_ready m q u gs) e in
@@ -122,7 +122,7 @@ from_is Sell Sell zero u h = absurd (omega (arith, zero-mul u))
 from_is Buy Sell (suc r) u h = refl
 from_is Sell Sell (suc r) u h = refl
 
-still_shown : (m₀ m : Levels) (q : QuoteSide) (u : ℕ) (g : TradedLeg) (gs : List TradedLeg) → All (λ x. x.series ≡ g.series → ⊥) gs → All (Shown m₀ m q u) gs → All (Shown m₀ (leg_taken m q u g) q u) gs
+still_shown : (m₀ m : Levels) (q : QuoteSide) (u : ℕ) (g : TradedLeg) (gs : List TradedLeg) → AllByRecursion (λ x. x.series ≡ g.series → ⊥) gs → AllByRecursion (Shown m₀ m q u) gs → AllByRecursion (Shown m₀ (leg_taken m q u g) q u) gs
 still_shown m₀ m q u g [] d h = tt
 still_shown m₀ m q u g (x ∷ xs) d h =
     let same = other_series m g.series x.series (used_side g.side q) (used_side x.side q) (g.ratio * u) d.0 in
@@ -135,7 +135,7 @@ leg_takes m side u g price rest m' h k =
     subst (λ w. P w (nat_abs (signed g.side g.ratio))) (sym (from_is side g.side g.ratio u (shows_some (m g.series v) price (g.ratio * u) h)))
     (subst (P v) (sym (abs_of g.side g.ratio)) (h, k))
 
-legs_take : (m₀ m : Levels) (side : Side) (u : ℕ) (gs : List TradedLeg) → Distinct gs → All (Shown m₀ m (taken_side side) u) gs → LegsTake m side u (map (leg_fill m₀ (taken_side side)) gs) (legs_taken m (taken_side side) u gs)
+legs_take : (m₀ m : Levels) (side : Side) (u : ℕ) (gs : List TradedLeg) → Distinct gs → AllByRecursion (Shown m₀ m (taken_side side) u) gs → LegsTake m side u (map (leg_fill m₀ (taken_side side)) gs) (legs_taken m (taken_side side) u gs)
 legs_take m₀ m side u [] d h = refl
 legs_take m₀ m side u (g ∷ gs) d h =
     let q : QuoteSide = taken_side side in

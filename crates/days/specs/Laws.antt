@@ -1,6 +1,6 @@
 -- The laws that every day keeps, in words of its calls, answers, markets and tape.
 use Rattle.std.specs.Prelude.{◌≡◌, ℕ, suc, ◌+◌, ◌*◌, ◌<◌, ◌≤◌, Bool, cond, ◌⊎◌, List, [], ◌∷◌, ◌++◌, map, length, ℤ, pos, negsuc, ◌+ℤ◌, neg_ℤ, ◌≤ℤ◌, IfSome, Some, None, Option, ◌==◌, unsigned_abs}
-use Rattle.std.specs.List.{AllByRecursion as All}
+use Rattle.std.specs.List.{AllByRecursion}
 use Rattle.strategy.specs.declared.leg.Side.{Side}
 use Rattle.strategy.specs.declared.leg.Side.TheVariants.{Buy, Sell}
 use Rattle.strategy.specs.declared.leg.Series.{Series}
@@ -312,7 +312,7 @@ pub record Laws (h : List Event) (s : State) : Type 0 where
   pub numbered : (n : ℕ) → s.last < n → s.order n ≡ None
   -- the tape is what the calls wrote, so that an earlier line never changes
   pub tape : s.tape ≡ written h
-  pub owned : Each (λ g e. All (Owned g) e.fills) h
+  pub owned : Each (λ g e. AllByRecursion (Owned g) e.fills) h
   -- each call takes from its market what its lines say
   pub takes : Each (λ g e. Takes e.market e.fills e.left) h
 

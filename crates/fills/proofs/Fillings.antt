@@ -88,7 +88,7 @@ module _ (b : Levels) (o : TurnedOrder) (remaining : ℕ) (buffers : Buffers) wh
       by_tests false false f g e = ap (λ x. Ok x) e
 
   in_turn : (p : Option ℕ) → lacking b (taken_side o.side) (order_legs o) ≡ p →
-    map_ok filling_of (in_market p (quoted_at b o remaining buffers (net_price b o))) ≡ check_at p NoMarket (priced (net_side b (order_legs o) (taken_side o.side)) (filling_for b (terms_of o) remaining buffers))
+      map_ok filling_of (in_market p (quoted_at b o remaining buffers (net_price b o))) ≡ check_at p NoMarket (priced (net_side b (order_legs o) (taken_side o.side)) (filling_for b (terms_of o) remaining buffers))
   in_turn (Some k) e = refl
   in_turn None e =
       let ratios = (and_parts (ratios_in_range (order_legs o)) (distinct (order_legs o)) o.legs.sound).0 in

@@ -1,7 +1,7 @@
 -- How many units a fill has, and that the market has them.
 use Rattle.std.proofs.Common.{◌≡◌, ℕ, zero, suc, ◌+◌, ◌*◌, ◌/◌, ◌<◌, ◌≤◌, min, Bool, true, false, cond, ◌&&◌, ltb, leb, List, [], ◌∷◌, ℤ, is_some, Some, None, Option, sym, refl, ap, ◌∙◌, le_trans, mul-le-mul_left, mul-zero, arith}
 use native.Mathlib.Nat.{mul-div-le}
-use Rattle.std.specs.List.{AllByRecursion as All}
+use Rattle.std.specs.List.{AllByRecursion}
 use Rattle.std.proofs.lemmas.Nat.{le-div, mul-le}
 use Rattle.std.proofs.lemmas.Bool.{and_parts, and_from, leb-true, le-leb, lt-ltb, ltb-false, cond-true}
 use Rattle.strategy.specs.declared.legs.Legs.{Legs}
@@ -56,7 +56,7 @@ module _ (b : Levels) (q : QuoteSide) where
       both_there g (best_of (b g.series (used_side g.side q))) (net_side b gs q) r.0 (ltb-false (used_level b q g).size g.ratio p.0) (net_there (n + 1) gs r.1 p.1)
 
   -- so many units are in every leg's first level
-  pub units_shown : (v u : ℕ) (gs : List TradedLeg) → v ≤ allowed b q u gs → All (λ g. g.ratio * v ≤ (used_level b q g).size) gs
+  pub units_shown : (v u : ℕ) (gs : List TradedLeg) → v ≤ allowed b q u gs → AllByRecursion (λ g. g.ratio * v ≤ (used_level b q g).size) gs
   units_shown v u [] h = tt
   units_shown v u (g ∷ gs) h =
       let w = units_within (min ((used_level b q g).size / g.ratio) u) gs in
@@ -67,7 +67,7 @@ module _ (b : Levels) (q : QuoteSide) where
   first_has [] n h k = absurd (omega arith)
   first_has (l ∷ ls) n h k = and_from (ltb 0 n) (leb n l.size) (lt-ltb 0 n h) (le-leb n l.size k)
 
-  all_ready_lem : (u : ℕ) (gs : List TradedLeg) → 0 < u → ratios_in_range gs ≡ true → All (λ g. g.ratio * u ≤ (used_level b q g).size) gs → all_ready b q u gs ≡ true
+  all_ready_lem : (u : ℕ) (gs : List TradedLeg) → 0 < u → ratios_in_range gs ≡ true → AllByRecursion (λ g. g.ratio * u ≤ (used_level b q g).size) gs → all_ready b q u gs ≡ true
   all_ready_lem u [] h e k = refl
   all_ready_lem u (g ∷ gs) h e k =
       let r = ratio_first g gs e in
@@ -99,17 +99,17 @@ same_cond true x y e = refl
 same_cond false x y e = sym e
 
 -- the takes of a fill are not refused
-pub can_take_lem : (b : Levels) (q : QuoteSide) (u : ℕ) (gs : List TradedLeg) → sound gs ≡ true → All (λ g. g.ratio * u ≤ (used_level b q g).size) gs → 0 < u → can_take_legs b q u gs ≡ true
+pub can_take_lem : (b : Levels) (q : QuoteSide) (u : ℕ) (gs : List TradedLeg) → sound gs ≡ true → AllByRecursion (λ g. g.ratio * u ≤ (used_level b q g).size) gs → 0 < u → can_take_legs b q u gs ≡ true
 can_take_lem b q u gs e k h =
     let p = and_parts (ratios_in_range gs) (distinct gs) e in
     and_from (distinct gs) (all_ready b q u gs) p.1 (all_ready_lem b q u gs h p.0 k)
 
-takes_made : (b : Levels) (q : QuoteSide) (u : ℕ) (gs : List TradedLeg) → sound gs ≡ true → All (λ g. g.ratio * u ≤ (used_level b q g).size) gs → cond (can_take_legs b q u gs) (legs_taken b q u gs) b ≡ legs_taken b q u gs
+takes_made : (b : Levels) (q : QuoteSide) (u : ℕ) (gs : List TradedLeg) → sound gs ≡ true → AllByRecursion (λ g. g.ratio * u ≤ (used_level b q g).size) gs → cond (can_take_legs b q u gs) (legs_taken b q u gs) b ≡ legs_taken b q u gs
 takes_made b q zero gs e k = same_cond (can_take_legs b q 0 gs) (legs_taken b q 0 gs) b (none_taken b q gs)
 takes_made b q (suc u) gs e k = cond-true (can_take_legs b q (suc u) gs) (legs_taken b q (suc u) gs) b (can_take_lem b q (suc u) gs e k (omega arith))
 
 -- the levels a after the takes of the legs, by a side s and legs that are those of the order
-pub after_takes : (b a : Levels) (q s : QuoteSide) (u : ℕ) (legs given : Legs TradedLeg) → sound (listed legs) ≡ true → All (λ g. g.ratio * u ≤ (used_level b q g).size) (listed legs) → s ≡ q → given ≡ legs → a ≡ cond (can_take_legs b s u (listed given)) (legs_taken b s u (listed given)) b → a ≡ legs_taken b q u (listed legs)
+pub after_takes : (b a : Levels) (q s : QuoteSide) (u : ℕ) (legs given : Legs TradedLeg) → sound (listed legs) ≡ true → AllByRecursion (λ g. g.ratio * u ≤ (used_level b q g).size) (listed legs) → s ≡ q → given ≡ legs → a ≡ cond (can_take_legs b s u (listed given)) (legs_taken b s u (listed given)) b → a ≡ legs_taken b q u (listed legs)
 after_takes b a q s u legs given e k es el h =
     h ∙ ap (λ x. cond (can_take_legs b x u (listed given)) (legs_taken b x u (listed given)) b) es
     ∙ ap (λ l. cond (can_take_legs b q u (listed l)) (legs_taken b q u (listed l)) b) el ∙ takes_made b q u (listed legs) e k

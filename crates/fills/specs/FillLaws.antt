@@ -1,6 +1,6 @@
 -- What a fill has, and when it is prevented.
 use Rattle.std.specs.Prelude.{◌≡◌, ℕ, ◌*◌, ◌<◌, ◌≤◌, true, false, List, map, ℤ, Some, None, Ok, Err, Result}
-use Rattle.std.specs.List.{AllByRecursion as All}
+use Rattle.std.specs.List.{AllByRecursion}
 use Rattle.strategy.specs.declared.leg.Side.TheVariants.{Buy}
 use Rattle.strategy.specs.declared.leg.Leg.{Leg}
 use Rattle.strategy.specs.declared.price.Buffers.{Buffers}
@@ -20,7 +20,7 @@ use Rattle.fills.specs.Fills.{taken_side, used_level, lacking, leg_fill, past_li
 pub record Filled (b : Levels) (o : TurnedOrder) (remaining : ℕ) (f : Fill) : Type 0 where
   pub within : f.units ≤ remaining
   pub some : 0 < remaining → 0 < f.units
-  pub shown : All (λ g. g.ratio * f.units ≤ (used_level b (taken_side o.side) g).size) (order_legs o)
+  pub shown : AllByRecursion (λ g. g.ratio * f.units ≤ (used_level b (taken_side o.side) g).size) (order_legs o)
   pub takeable : 0 < f.units → can_take_legs b (taken_side o.side) f.units (order_legs o) ≡ true
   pub price : net_side b (order_legs o) (taken_side o.side) ≡ Some f.net
   pub inside : past_limit o.side f.net o.limit ≡ false

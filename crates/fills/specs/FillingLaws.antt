@@ -1,6 +1,6 @@
 -- What a fill has, of an order and a fill seen from outside.
 use Rattle.std.specs.Prelude.{◌≡◌, ℕ, ◌*◌, ◌<◌, ◌≤◌, true, false, map, ℤ, Some, None}
-use Rattle.std.specs.List.{AllByRecursion as All}
+use Rattle.std.specs.List.{AllByRecursion}
 use Rattle.market.specs.Levels.{Levels}
 use Rattle.market.specs.Net.{net_side}
 use Rattle.market.specs.Takes.{can_take_legs}
@@ -13,7 +13,7 @@ use Rattle.fills.specs.Fillings.{Filling}
 pub record IsFilling (b : Levels) (o : Terms) (remaining : ℕ) (f : Filling) : Type 0 where
   pub within : f.units ≤ remaining
   pub some : 0 < remaining → 0 < f.units
-  pub shown : All (λ g. g.ratio * f.units ≤ (used_level b (taken_side o.side) g).size) o.legs
+  pub shown : AllByRecursion (λ g. g.ratio * f.units ≤ (used_level b (taken_side o.side) g).size) o.legs
   pub takeable : 0 < f.units → can_take_legs b (taken_side o.side) f.units o.legs ≡ true
   pub price : net_side b o.legs (taken_side o.side) ≡ Some f.net
   pub inside : past_limit o.side f.net o.limit ≡ false

@@ -1,5 +1,6 @@
 // The operator's check of a file of lines: for each line its form again, or why it is refused.
 #![tactic(auto)]
+
 use answers::answer::Answer;
 use commands::command::Feed;
 use commands::line::read_line;

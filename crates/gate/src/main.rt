@@ -1,5 +1,6 @@
 // The gate over the board: lines from standard input, answers to standard output.
 #![tactic(auto)]
+
 use session::desk::run;
 use std::io::BufWriter;
 use venues::board::Board;

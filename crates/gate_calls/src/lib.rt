@@ -1,3 +1,4 @@
 // The gate and its calls.
 #![tactic(auto)]
+
 pub mod gate;

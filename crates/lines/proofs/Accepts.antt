@@ -3,7 +3,7 @@ use Rattle.std.proofs.Common.{◌≡◌, ℕ, zero, suc, ◌+◌, ◌-◌, ◌^�
 use Rattle.std.specs.Str.Parse.{digits_value as value}
 use Rattle.std.specs.Int.{IsInRange}
 use Rattle.std.specs.Fmt.{signed_decimal}
-use Rattle.std.specs.List.{AllByRecursion as All}
+use Rattle.std.specs.List.{AllByRecursion}
 use Rattle.std.proofs.lemmas.Fmt.{decimal_digit, first_decimal, length-decimal-le, digits_decimal, decimal-digits_value}
 use Rattle.std.proofs.lemmas.List.{nil_from_length, take_more, take_all, take-append-drop}
 use Rattle.std.proofs.lemmas.Str.Parse.{IsNumeralModel, numerals_by_value, digits_value_short}
@@ -34,14 +34,14 @@ bounds a z b e = let p = and_parts _ _ e in (leb-true a b p.0, leb-true b z p.1)
 
 -- Every form is accepted.
 
-letters_run : (g : Bool) (room : ℕ) (w t : List ℕ) → All Letter w → length w ≤ room → (left : ℕ) × (run (Some (Letters g room)) (w ++ t) ≡ run (Some (Letters g left)) t)
+letters_run : (g : Bool) (room : ℕ) (w t : List ℕ) → AllByRecursion Letter w → length w ≤ room → (left : ℕ) × (run (Some (Letters g room)) (w ++ t) ≡ run (Some (Letters g left)) t)
 letters_run g room [] t h l = (room, refl)
 letters_run g zero (b ∷ w) t h l = absurd (omega arith)
 letters_run g (suc n) (b ∷ w) t h l =
     let rest = letters_run g n w t h.1 (omega arith) in
     (rest.0, ap (λ o. run o (w ++ t)) (cond-true _ _ _ (inside 97 122 b h.0.0 h.0.1)) ∙ rest.1)
 
-digits_run : (g : Bool) (room : ℕ) (w t : List ℕ) → All Digit w → length w ≤ room → (left : ℕ) × (run (Some (Digits g room)) (w ++ t) ≡ run (Some (Digits g left)) t)
+digits_run : (g : Bool) (room : ℕ) (w t : List ℕ) → AllByRecursion Digit w → length w ≤ room → (left : ℕ) × (run (Some (Digits g room)) (w ++ t) ≡ run (Some (Digits g left)) t)
 digits_run g room [] t h l = (room, refl)
 digits_run g zero (b ∷ w) t h l = absurd (omega arith)
 digits_run g (suc n) (b ∷ w) t h l =
@@ -88,8 +88,8 @@ pub record Reaches (g : Bool) (o : Option State) (bs t : List ℕ) : Type 0 wher
   over : Over g end
   same : run o bs ≡ run (Some end) t
 
-pub own : IsNumeralModel (λ ds. All Digit ds) (value 10)
-own = numerals_by_value (λ ds. All Digit ds) (search rules)
+pub own : IsNumeralModel (λ ds. AllByRecursion Digit ds) (value 10)
+own = numerals_by_value (λ ds. AllByRecursion Digit ds) (search rules)
 
 -- a numeral that is not 0
 pub record Lead (ds : List ℕ) : Type 0 where
@@ -97,10 +97,10 @@ pub record Lead (ds : List ℕ) : Type 0 where
   more : List ℕ
   is : ds ≡ first ∷ more
   nonzero : IsInRange 49 57 first
-  digits : All Digit more
+  digits : AllByRecursion Digit more
   short : length more ≤ 8
 
-led : (ds : List ℕ) → All Digit ds → 48 < get_or ds 0 0 → length ds ≤ 9 → Lead ds
+led : (ds : List ℕ) → AllByRecursion Digit ds → 48 < get_or ds 0 0 → length ds ≤ 9 → Lead ds
 led [] d f s = absurd (omega arith)
 led (b ∷ bs) d f s = record { first = b; more = bs; is = refl; nonzero = (omega arith, d.0.1); digits = d.1; short = omega arith }
 
@@ -144,7 +144,7 @@ module _ (g : Bool) (t : List ℕ) where
   atom_run (word w) h = word_run (Some (start g)) w h (start_letter g)
   atom_run (number z) h = number_run z h
 
-atoms_run : (atoms : List Atom) (t : List ℕ) (s : State) → Over true s → All IsAtom atoms → run (Some s) (spaced_atoms atoms ++ 41 ∷ t) ≡ run (Some (Digits false 0)) t
+atoms_run : (atoms : List Atom) (t : List ℕ) (s : State) → Over true s → AllByRecursion IsAtom atoms → run (Some s) (spaced_atoms atoms ++ 41 ∷ t) ≡ run (Some (Digits false 0)) t
 atoms_run [] t s o h = ap (λ p. run p t) o.close
 atoms_run (a ∷ atoms) t s o h =
     let rest = spaced_atoms atoms ++ 41 ∷ t in
@@ -162,7 +162,7 @@ item_run t (group a more) h =
       same = ap (λ xs. run (Some Member) xs) (append_assoc (atom_text a) (spaced_atoms more ++ 41 ∷ []) t ∙ ap (λ xs. atom_text a ++ xs) (append_assoc (spaced_atoms more) (41 ∷ []) t)) ∙ one.same ∙ atoms_run more t one.end one.over h.1;
     }
 
-items_run : (items : List forms.Item) (s : State) → Over false s → All IsItem items → run (Some s) (spaced_items items ++ 41 ∷ []) ≡ Some Done
+items_run : (items : List forms.Item) (s : State) → Over false s → AllByRecursion IsItem items → run (Some s) (spaced_items items ++ 41 ∷ []) ≡ Some Done
 items_run [] s o h = o.close
 items_run (i ∷ items) s o h =
     let rest = spaced_items items ++ 41 ∷ [] in
@@ -181,13 +181,13 @@ complete bs f =
 
 pub record TailTop (bs : List ℕ) : Type 0 where
   items : List forms.Item
-  parts : All IsItem items
+  parts : AllByRecursion IsItem items
   whole : bs ≡ spaced_items items ++ 41 ∷ []
 
 pub record TailIn (bs : List ℕ) : Type 0 where
   atoms : List Atom
   after : List ℕ
-  parts : All IsAtom atoms
+  parts : AllByRecursion IsAtom atoms
   tail : TailTop after
   whole : bs ≡ spaced_atoms atoms ++ 41 ∷ after
 
@@ -208,7 +208,7 @@ pub record Spelt (A : Type 0) (P : A → Type 0) (text : A → List ℕ) (bs : L
   is : bs ≡ text value
 
 pub record Run (P : ℕ → Type 0) (n : ℕ) (bs : List ℕ) : Type 0 where
-  all : All P bs
+  all : AllByRecursion P bs
   short : length bs ≤ n
 
 abbrev Rest : State → List ℕ → Type 0
@@ -242,7 +242,7 @@ lead_value : (ds : List ℕ) → Lead ds → Names ds (value 10 ds)
 lead_value ds l =
     let head : get_or ds 0 0 ≡ l.first = ap (λ xs. get_or xs 0 0) l.is in
     let long : length ds ≡ suc (length l.more) = ap length l.is in
-    let ok : All Digit ds = subst (All Digit) (sym l.is) ((omega (arith, l.nonzero.0), l.nonzero.1), l.digits) in
+    let ok : AllByRecursion Digit ds = subst (AllByRecursion Digit) (sym l.is) ((omega (arith, l.nonzero.0), l.nonzero.1), l.digits) in
     let low : value 10 ds < 10 ^ 9 = digits_value_short own ds 9 ok (omega (arith, l.short)) in
     let text : decimal (value 10 ds) ≡ ds = decimal-digits_value own ds ok (omega arith) (λ e. absurd (omega (arith, l.nonzero.0))) (omega arith) in
     record {

@@ -1,7 +1,7 @@
 -- The tokens of any bytes, and those of a form.
 use Rattle.std.proofs.Common.{◌≡◌, ℕ, zero, suc, ◌+◌, ◌-◌, ◌*◌, ◌/◌, ◌%◌, ◌^◌, ◌<◌, ◌≤◌, true, false, cond, eqb, ltb, List, [], ◌∷◌, ◌++◌, length, get_or, take, drop, ℤ, pos, negsuc, ◌-ℤ◌, neg_ℤ, nat_abs, IsUtf8, decimal, sym, refl, ap, ◌∙◌, append_assoc, add-zero, add-one, arith, length-append, length-drop, length-take, drop-cons, w32, to_z, of_z}
 use Rattle.std.specs.Fmt.{signed_decimal}
-use Rattle.std.specs.List.{AllByRecursion as All}
+use Rattle.std.specs.List.{AllByRecursion}
 use Rattle.std.proofs.lemmas.Str.Ascii.{IsAscii-from_reads}
 use Rattle.std.proofs.lemmas.Str.{IsUtf8-from_ascii}
 use Rattle.std.proofs.lemmas.Fmt.{decimal_by_steps, decimal_nonempty, digits_decimal}
@@ -173,10 +173,10 @@ atom_of_lem c (number (negsuc n)) h = ap counted (numeral_signed (negsuc n) h)
 abbrev Inky : ℕ → Type 0
 Inky b = ink b ≡ true
 
-inky_digits : (n : ℕ) → n < 10 ^ 9 → All Inky (decimal n)
+inky_digits : (n : ℕ) → n < 10 ^ 9 → AllByRecursion Inky (decimal n)
 inky_digits n h = All-weaker Digit Inky (λ b d. within_true 45 127 b (omega arith) (omega arith)) (decimal n) (digits_decimal own n (omega arith))
 
-inky_atom : (a : Atom) → IsAtom a → All Inky (atom_text a)
+inky_atom : (a : Atom) → IsAtom a → AllByRecursion Inky (atom_text a)
 inky_atom (word w) h = All-weaker Letter Inky (λ b l. within_true 45 127 b (omega arith) (omega arith)) w h.letters
 inky_atom (number (pos n)) h = inky_digits n h
 inky_atom (number (negsuc n)) h = (refl, inky_digits (suc n) (omega arith))
@@ -190,7 +190,7 @@ some_atom (number (negsuc n)) h = omega arith
 abbrev Stops : List ℕ → Type 0
 Stops t = ink (get_or t 0 0) ≡ false
 
-ink_append : (w t : List ℕ) → All Inky w → Stops t → inked (w ++ t) ≡ w
+ink_append : (w t : List ℕ) → AllByRecursion Inky w → Stops t → inked (w ++ t) ≡ w
 ink_append [] [] h s = refl
 ink_append [] (b ∷ t) h s = simp s
 ink_append (b ∷ w) t h s = simp h.0 (ap (λ l. b ∷ l) (ink_append w t h.1 s))
@@ -213,7 +213,7 @@ stops_items : (items : List Item) → Stops (spaced_items items)
 stops_items [] = refl
 stops_items (i ∷ items) = refl
 
-lexed_atoms : (c : ℕ) (atoms : List Atom) (t : List ℕ) → All IsAtom atoms → Stops t → lexed c 0 (spaced_atoms atoms ++ t) ≡ spaced_atom_lexemes c atoms ++ lexed (c + length (spaced_atoms atoms)) 0 t
+lexed_atoms : (c : ℕ) (atoms : List Atom) (t : List ℕ) → AllByRecursion IsAtom atoms → Stops t → lexed c 0 (spaced_atoms atoms ++ t) ≡ spaced_atom_lexemes c atoms ++ lexed (c + length (spaced_atoms atoms)) 0 t
 lexed_atoms c [] t h s = ap (λ k. lexed k 0 t) (sym (add-zero c))
 lexed_atoms c (a ∷ atoms) t h s =
     let k = c + 1 + length (atom_text a) in
@@ -237,7 +237,7 @@ lexed_item c (group a more) t h s =
     ∙ ap (λ j. spaced_atom_lexemes k more ++ closes ∷ lexed j 0 t) e
     ∙ sym (append_assoc (spaced_atom_lexemes k more) (closes ∷ []) (lexed (c + length (item_text (group a more))) 0 t))))
 
-lexed_items : (c : ℕ) (items : List Item) → All IsItem items → lexed c 0 (spaced_items items) ≡ spaced_item_lexemes c items
+lexed_items : (c : ℕ) (items : List Item) → AllByRecursion IsItem items → lexed c 0 (spaced_items items) ≡ spaced_item_lexemes c items
 lexed_items c [] h = refl
 lexed_items c (i ∷ items) h =
     let k = c + 1 + length (item_text i) in

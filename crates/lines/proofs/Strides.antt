@@ -2,19 +2,19 @@
 use Rattle.std.proofs.Common.{◌≡◌, ℕ, zero, suc, ◌+◌, ◌-◌, ◌≤◌, Bool, true, eqb, List, [], ◌∷◌, length, take, drop, Some, None, Option, sym, refl, ap, ◌∙◌, ⊎_elim, arith, take-add}
 use Rattle.std.proofs.lemmas.List.{length-take-le}
 use Rattle.std.proofs.lemmas.Bool.{cond-true, cond-false, cases_eq, ne_eqb}
-use Rattle.std.specs.List.{AllByRecursion as All}
+use Rattle.std.specs.List.{AllByRecursion}
 use Rattle.lines.specs.declared.scan.State.{State}
 use Rattle.lines.specs.declared.scan.State.TheVariants.{Start, Letters, Digits}
 use Rattle.lines.specs.Scanner.{within, ended, next, run}
 use Rattle.lines.proofs.Accepts.{run_append}
 
-letters_go : (g : Bool) (room : ℕ) (bs : List ℕ) → All (λ b. within 97 122 b ≡ true) bs → length bs ≤ room → run (Some (Letters g room)) bs ≡ Some (Letters g (room - length bs))
+letters_go : (g : Bool) (room : ℕ) (bs : List ℕ) → AllByRecursion (λ b. within 97 122 b ≡ true) bs → length bs ≤ room → run (Some (Letters g room)) bs ≡ Some (Letters g (room - length bs))
 letters_go g room [] h l = ap (λ n. Some (Letters g n)) (omega arith)
 letters_go g zero (b ∷ bs) h l = absurd (omega arith)
 letters_go g (suc n) (b ∷ bs) h l =
     ap (λ o. run o bs) (cond-true (within 97 122 b) _ _ h.0) ∙ letters_go g n bs h.1 (omega arith) ∙ ap (λ k. Some (Letters g k)) (omega arith)
 
-digits_go : (g : Bool) (room : ℕ) (bs : List ℕ) → All (λ b. within 48 57 b ≡ true) bs → length bs ≤ room → run (Some (Digits g room)) bs ≡ Some (Digits g (room - length bs))
+digits_go : (g : Bool) (room : ℕ) (bs : List ℕ) → AllByRecursion (λ b. within 48 57 b ≡ true) bs → length bs ≤ room → run (Some (Digits g room)) bs ≡ Some (Digits g (room - length bs))
 digits_go g room [] h l = ap (λ n. Some (Digits g n)) (omega arith)
 digits_go g zero (b ∷ bs) h l = absurd (omega arith)
 digits_go g (suc n) (b ∷ bs) h l =
@@ -24,11 +24,11 @@ module _ (bs : List ℕ) (g : Bool) (room n m : ℕ) (s : State) (same : m ≡ n
   long : length (take n bs) ≡ n
   long = length-take-le n bs inside
 
-  pub letters_stride : s ≡ Letters g room → All (λ b. within 97 122 b ≡ true) (take n bs) → run (Some s) (take m bs) ≡ Some (Letters g (room - n))
+  pub letters_stride : s ≡ Letters g room → AllByRecursion (λ b. within 97 122 b ≡ true) (take n bs) → run (Some s) (take m bs) ≡ Some (Letters g (room - n))
   letters_stride is all =
       ap (λ k. run (Some s) (take k bs)) same ∙ ap (λ x. run (Some x) (take n bs)) is ∙ letters_go g room (take n bs) all (omega (arith, long)) ∙ ap (λ k. Some (Letters g (room - k))) long
 
-  pub digits_stride : s ≡ Digits g room → All (λ b. within 48 57 b ≡ true) (take n bs) → run (Some s) (take m bs) ≡ Some (Digits g (room - n))
+  pub digits_stride : s ≡ Digits g room → AllByRecursion (λ b. within 48 57 b ≡ true) (take n bs) → run (Some s) (take m bs) ≡ Some (Digits g (room - n))
   digits_stride is all =
       ap (λ k. run (Some s) (take k bs)) same ∙ ap (λ x. run (Some x) (take n bs)) is ∙ digits_go g room (take n bs) all (omega (arith, long)) ∙ ap (λ k. Some (Digits g (room - k))) long
 

@@ -1,6 +1,6 @@
 -- What a line has to be to be a form, and where a line that is none goes wrong.
 use Rattle.std.specs.Prelude.{◌≡◌, ℕ, ◌+◌, ◌-◌, ◌^◌, ◌<◌, ◌≤◌, List, [], ◌∷◌, ◌++◌, length, take, ℤ, unsigned_abs}
-use Rattle.std.specs.List.{flat_map, AllByRecursion as All}
+use Rattle.std.specs.List.{flat_map, AllByRecursion}
 use Rattle.std.specs.Fmt.{signed_decimal}
 
 -- a lower-case letter, `a` to `z`
@@ -11,7 +11,7 @@ Letter b = (97 ≤ b) × (b ≤ 122)
 pub record IsWord (w : List ℕ) : Type 0 where
   pub some : 1 ≤ length w
   pub short : length w ≤ 9
-  pub letters : All Letter w
+  pub letters : AllByRecursion Letter w
 
 pub data Atom : Type 0 where
   word : List ℕ → Atom
@@ -29,7 +29,7 @@ IsAtom (number z) = unsigned_abs z < 10 ^ 9
 
 abbrev pub IsItem : Item → Type 0
 IsItem (single a) = IsAtom a
-IsItem (group a more) = IsAtom a × All IsAtom more
+IsItem (group a more) = IsAtom a × AllByRecursion IsAtom more
 
 -- a number is written in decimal, with a minus if below 0, and so with no leading zero and no -0
 abbrev pub atom_text : Atom → List ℕ
@@ -53,7 +53,7 @@ form_text head items = 40 ∷ (head ++ (spaced_items items ++ 41 ∷ []))
 -- bs is the form with this head and these items
 pub record Spells (bs : List ℕ) (head : List ℕ) (items : List Item) : Type 0 where
   pub name : IsWord head
-  pub parts : All IsItem items
+  pub parts : AllByRecursion IsItem items
   pub whole : bs ≡ form_text head items
 
 abbrev pub Form : List ℕ → Type 0

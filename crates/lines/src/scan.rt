@@ -1,6 +1,6 @@
 // The scanner: tells whether a line is a form, and if not, at which column it goes wrong.
 ghost use Rattle.std.specs.Prelude.{◌≡◌, ◌≤◌, true, length, take, Some, MatchResult};
-ghost use Rattle.std.specs.List.{AllByRecursion as All};
+ghost use Rattle.std.specs.List.{AllByRecursion};
 ghost use Rattle.lines.specs.declared.scan.State.{State};
 ghost use Rattle.lines.specs.Forms.{Form, OnlyFault};
 ghost use Rattle.lines.specs.Scanner.{within, ended, leading, opening, next, run};
@@ -66,7 +66,7 @@ fn opened_by(grouped: bool, b: u8) -> Option<State>
 fn run_length(bytes: &[u8], low: u8, high: u8, most: u8) -> u8
     ensures few { result ≤ most }
     ensures inside { result ≤ length bytes.now }
-    ensures all { All (λ b. within low high b ≡ true) (take result bytes.now) }
+    ensures all { AllByRecursion (λ b. within low high b ≡ true) (take result bytes.now) }
 {
     let mut n = 0;
     for b in bytes {

@@ -1,6 +1,6 @@
 -- Takes from each leg in turn.
 use Rattle.std.proofs.Common.{◌≡◌, ℕ, ◌+◌, ◌*◌, ◌<◌, ◌≤◌, Bool, true, false, not, ◌&&◌, ◌||◌, eqb, List, [], ◌∷◌, length, drop, Ok, Err, sym, refl, ap, ◌∙◌, subst}
-use Rattle.std.specs.List.{AllByRecursion as All}
+use Rattle.std.specs.List.{AllByRecursion}
 use Rattle.std.proofs.lemmas.List.{drop_more, drop_all}
 use Rattle.std.proofs.lemmas.Bool.{cond-true, ne_eqb, eqb-false, and_parts, and_from, or_parts, or_from, or_left, eq-eqb, not_from_false, not-true}
 use Rattle.market.specs.declared.quote.QuoteSide.{QuoteSide}
@@ -21,7 +21,7 @@ InTurn b q u (g ∷ gs) = (leg_ready b q u g ≡ true) × InTurn (leg_taken b q 
 pub other_series : (b : Levels) (k j : ℕ) (s t : QuoteSide) (n : ℕ) → (j ≡ k → ⊥) → taken_at b k s n j t ≡ b j t
 other_series b k j s t n ne = rw (ne_eqb j k ne)
 
-still_ready : (b : Levels) (q : QuoteSide) (u : ℕ) (g : TradedLeg) (gs : List TradedLeg) → All (λ x. x.series ≡ g.series → ⊥) gs → Ready b q u gs → Ready (leg_taken b q u g) q u gs
+still_ready : (b : Levels) (q : QuoteSide) (u : ℕ) (g : TradedLeg) (gs : List TradedLeg) → AllByRecursion (λ x. x.series ≡ g.series → ⊥) gs → Ready b q u gs → Ready (leg_taken b q u g) q u gs
 still_ready b q u g [] d r = tt
 still_ready b q u g (x ∷ xs) d r = (
   ap (λ ls. can_take ls (x.ratio * u)) (other_series b g.series x.series (used_side g.side q) (used_side x.side q) (g.ratio * u) d.0) ∙ r.0,
@@ -33,11 +33,11 @@ in_turn b q u [] d r = tt
 in_turn b q u (g ∷ gs) d r = (r.0, in_turn (leg_taken b q u g) q u gs d.1 (still_ready b q u g gs d.0 r.1))
 
 -- the tests of the legs, and what they say of each leg
-away_false : (k : ℕ) (gs : List TradedLeg) → All (λ x. x.series ≡ k → ⊥) gs → in_series k gs ≡ false
+away_false : (k : ℕ) (gs : List TradedLeg) → AllByRecursion (λ x. x.series ≡ k → ⊥) gs → in_series k gs ≡ false
 away_false k [] d = refl
 away_false k (x ∷ xs) d = or_from (eqb x.series k) (in_series k xs) (ne_eqb x.series k d.0) (away_false k xs d.1)
 
-false_away : (k : ℕ) (gs : List TradedLeg) → in_series k gs ≡ false → All (λ x. x.series ≡ k → ⊥) gs
+false_away : (k : ℕ) (gs : List TradedLeg) → in_series k gs ≡ false → AllByRecursion (λ x. x.series ≡ k → ⊥) gs
 false_away k [] e = tt
 false_away k (x ∷ xs) e = let p = or_parts (eqb x.series k) (in_series k xs) e in (eqb-false x.series k p.0, false_away k xs p.1)
 

@@ -1,6 +1,6 @@
 -- What is taken of each leg for some units of a strategy.
 use Rattle.std.specs.Prelude.{◌≡◌, ℕ, ◌*◌, Bool, true, false, not, ◌&&◌, ◌||◌, List, [], ◌∷◌, ◌==◌, ◌≢◌}
-use Rattle.std.specs.List.{AllByRecursion as All}
+use Rattle.std.specs.List.{AllByRecursion}
 use Rattle.market.specs.declared.quote.QuoteSide.{QuoteSide}
 use Rattle.market.specs.declared.leg.TradedLeg.{TradedLeg}
 use Rattle.market.specs.Levels.{Levels, can_take, taken_at}
@@ -39,7 +39,7 @@ legs_taken b q u (g ∷ gs) = legs_taken (leg_taken b q u g) q u gs
 -- the two tests, said of each leg
 abbrev pub Distinct : List TradedLeg → Type 0
 Distinct [] = Unit {0}
-Distinct (g ∷ gs) = All (λ x. x.series ≢ g.series) gs × Distinct gs
+Distinct (g ∷ gs) = AllByRecursion (λ x. x.series ≢ g.series) gs × Distinct gs
 
 abbrev pub Ready : Levels → QuoteSide → ℕ → List TradedLeg → Type 0
-Ready b q u gs = All (λ g. leg_ready b q u g ≡ true) gs
+Ready b q u gs = AllByRecursion (λ g. leg_ready b q u g ≡ true) gs

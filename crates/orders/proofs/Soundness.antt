@@ -1,6 +1,6 @@
 -- Legs that passed their checks are sound.
 use Rattle.std.proofs.Common.{◌≡◌, ℕ, ◌+◌, Bool, true, false, cond, not, ◌&&◌, ◌||◌, eqb, leb, List, [], ◌∷◌, ◌++◌, map, ℤ, pos, negsuc, Some, None, Option, sym, refl, ap, ◌∙◌, arith}
-use Rattle.std.specs.List.{AllByRecursion as All}
+use Rattle.std.specs.List.{AllByRecursion}
 use Rattle.std.proofs.lemmas.Bool.{and_parts, and_from, or_parts, or_from, not_from_false, eqb-false, ne_eqb}
 use Rattle.std.proofs.lemmas.Int.{ints}
 use Rattle.std.proofs.lemmas.Bool.Decides.{nat_tests}
@@ -61,7 +61,7 @@ none_of_first true n next e = let z : ◌≡◌ {A = ℕ} 0 1 = cc in absurd (om
 none_of_first false n next e = (refl, e)
 
 abbrev Apart : List ℕ → List TradedLeg → Type 0
-Apart earlier gs = All (λ g. names g.series earlier ≡ false) gs
+Apart earlier gs = AllByRecursion (λ g. names g.series earlier ≡ false) gs
 
 apart_less : (earlier : List ℕ) (k : ℕ) (gs : List TradedLeg) → Apart (earlier ++ k ∷ []) gs → Apart earlier gs
 apart_less earlier k [] a = tt

@@ -1,5 +1,6 @@
 // The session: a line comes in, and its answer goes out.
 #![tactic(auto)]
+
 pub mod desk;
 pub mod fault;
 pub mod session;

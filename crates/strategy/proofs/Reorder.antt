@@ -1,6 +1,6 @@
 -- The first element of a list is one of those that it is reordered from, and what is left is reordered from the others.
 use Rattle.std.proofs.Common.{◌≡◌, suc, ◌⊎◌, List, [], ◌∷◌, length, sym, refl, ap, ◌∙◌, inl, inr}
-use Rattle.std.specs.List.{AllByRecursion as All}
+use Rattle.std.specs.List.{AllByRecursion}
 use Rattle.strategy.specs.Reordering.{TakenOut, Reordered}
 
 pub only_from : {X : Type 0} (a x : X) → a ≡ x → Reordered (a ∷ []) (x ∷ [])
@@ -53,27 +53,27 @@ four_of a bs x y z w (rest, inr (less, inr (l, inr (m, inr (n, i, o), p), q), r)
 
 -- what holds of every element holds in any order
 module _ {X : Type 0} (P : X → Type 0) where
-  all_out : (x : X) (ys rest : List X) → TakenOut x ys rest → All P ys → P x × All P rest
+  all_out : (x : X) (ys rest : List X) → TakenOut x ys rest → AllByRecursion P ys → P x × AllByRecursion P rest
   unfolding TakenOut
   all_out x [] rest t h = absurd t
   all_out x (y ∷ ys) rest (inl (e, r)) h = (rw e h.0, rw r h.1)
   all_out x (y ∷ ys) rest (inr (less, t, r)) h =
-      let q : P x × All P less = all_out x ys less t h.1 in (q.0, rw r (h.0, q.1))
+      let q : P x × AllByRecursion P less = all_out x ys less t h.1 in (q.0, rw r (h.0, q.1))
 
-  all_in : (x : X) (ys rest : List X) → TakenOut x ys rest → P x → All P rest → All P ys
+  all_in : (x : X) (ys rest : List X) → TakenOut x ys rest → P x → AllByRecursion P rest → AllByRecursion P ys
   unfolding TakenOut
   all_in x [] rest t p h = absurd t
   all_in x (y ∷ ys) rest (inl (e, r)) p h = (rw e at p, rw r at h)
   all_in x (y ∷ ys) rest (inr (less, t, r)) p h =
-      let q : P y × All P less = rw r at h in (q.0, all_in x ys less t p q.1)
+      let q : P y × AllByRecursion P less = rw r at h in (q.0, all_in x ys less t p q.1)
 
-  pub all_from : (xs ys : List X) → Reordered xs ys → All P ys → All P xs
+  pub all_from : (xs ys : List X) → Reordered xs ys → AllByRecursion P ys → AllByRecursion P xs
   unfolding Reordered
   all_from [] ys r h = tt
   all_from (x ∷ xs) ys (rest, t, r) h =
-      let q : P x × All P rest = all_out x ys rest t h in (q.0, all_from xs rest r q.1)
+      let q : P x × AllByRecursion P rest = all_out x ys rest t h in (q.0, all_from xs rest r q.1)
 
-  pub all_to : (xs ys : List X) → Reordered xs ys → All P xs → All P ys
+  pub all_to : (xs ys : List X) → Reordered xs ys → AllByRecursion P xs → AllByRecursion P ys
   unfolding Reordered
   all_to [] ys r h = rw r tt
   all_to (x ∷ xs) ys (rest, t, r) h = all_in x ys rest t h.0 (all_to xs rest r h.1)

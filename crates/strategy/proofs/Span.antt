@@ -1,6 +1,6 @@
 -- The strikes, the kind and the expiry of a long form can be read off its legs, in whatever order they stand.
 use Rattle.std.proofs.Common.{◌≡◌, ℕ, ◌+◌, ◌-◌, ◌/◌, ◌<◌, ◌≤◌, min, max, List, [], ◌∷◌, refl, arith}
-use Rattle.std.specs.List.{AllByRecursion as All}
+use Rattle.std.specs.List.{AllByRecursion}
 use Rattle.strategy.specs.declared.leg.Kind.{Kind}
 use Rattle.strategy.specs.declared.leg.Kind.TheVariants.{Call, Put}
 use Rattle.strategy.specs.declared.leg.Leg.{Leg}
@@ -17,8 +17,8 @@ pub record Within (u e low high : ℕ) (l : Leg) : Type 0 where
 
 -- `low` and `high` are the ends of what the legs have at f
 pub record Reached (f : Leg → ℕ) (legs : List Leg) (low high : ℕ) : Type 0 where
-  pub lowest : (m : ℕ) → All (λ l. m ≤ f l) legs → m ≤ low
-  pub highest : (m : ℕ) → All (λ l. f l ≤ m) legs → high ≤ m
+  pub lowest : (m : ℕ) → AllByRecursion (λ l. m ≤ f l) legs → m ≤ low
+  pub highest : (m : ℕ) → AllByRecursion (λ l. f l ≤ m) legs → high ≤ m
 
 pub reached_from : (f : Leg → ℕ) (legs form : List Leg) (low high : ℕ) → Reordered legs form → Reached f form low high → Reached f legs low high
 reached_from f legs form low high r h =
@@ -37,13 +37,13 @@ module _ (u low high e : ℕ) where
   leg_within : (l : Leg) → l.series.underlying ≡ u → l.series.expiry ≡ e → low ≤ l.series.strike → l.series.strike ≤ high → Within u e low high l
   leg_within l p q h k = record { underlying = p; expiry = q; above = h; below = k }
 
-  pub vertical_within : (k : Kind) → low ≤ high → All (Within u e low high) (vertical u k low high e)
+  pub vertical_within : (k : Kind) → low ≤ high → AllByRecursion (Within u e low high) (vertical u k low high e)
   vertical_within Call h =
       (leg_within _ refl refl (omega arith) (omega arith), (leg_within _ refl refl (omega arith) (omega arith), tt))
   vertical_within Put h =
       (leg_within _ refl refl (omega arith) (omega arith), (leg_within _ refl refl (omega arith) (omega arith), tt))
 
-  vertical_kind : (k : Kind) → All (λ l. l.series.kind ≡ k) (vertical u k low high e)
+  vertical_kind : (k : Kind) → AllByRecursion (λ l. l.series.kind ≡ k) (vertical u k low high e)
   vertical_kind Call = (refl, (refl, tt))
   vertical_kind Put = (refl, (refl, tt))
 
@@ -51,17 +51,17 @@ module _ (u low high e : ℕ) where
   vertical_reached Call = record { lowest = λ m h. h.0; highest = λ m h. h.1.0 }
   vertical_reached Put = record { lowest = λ m h. h.1.0; highest = λ m h. h.0 }
 
-  pub butterfly_within : (k : Kind) (middle : ℕ) → low ≤ middle → middle ≤ high → All (Within u e low high) (butterfly u k low middle high e)
+  pub butterfly_within : (k : Kind) (middle : ℕ) → low ≤ middle → middle ≤ high → AllByRecursion (Within u e low high) (butterfly u k low middle high e)
   butterfly_within k middle p q =
       (leg_within _ refl refl (omega arith) (omega arith), (leg_within _ refl refl (omega arith) (omega arith), (leg_within _ refl refl (omega arith) (omega arith), tt)))
 
-  butterfly_kind : (k : Kind) (middle : ℕ) → All (λ l. l.series.kind ≡ k) (butterfly u k low middle high e)
+  butterfly_kind : (k : Kind) (middle : ℕ) → AllByRecursion (λ l. l.series.kind ≡ k) (butterfly u k low middle high e)
   butterfly_kind k middle = (refl, (refl, (refl, tt)))
 
   pub butterfly_reached : (k : Kind) (middle : ℕ) → Reached strike_of (butterfly u k low middle high e) low high
   butterfly_reached k middle = record { lowest = λ m h. h.0; highest = λ m h. h.1.1.0 }
 
-  pub box_within : low ≤ high → All (Within u e low high) (box u low high e)
+  pub box_within : low ≤ high → AllByRecursion (Within u e low high) (box u low high e)
   box_within h = (
     leg_within _ refl refl (omega arith) (omega arith),
     (
@@ -82,7 +82,7 @@ pub record Dated (u : ℕ) (k : Kind) (strike near later : ℕ) (l : Leg) : Type
   pub below : l.series.expiry ≤ later
 
 module _ (u : ℕ) (k : Kind) (strike near later : ℕ) where
-  pub calendar_dated : near ≤ later → All (Dated u k strike near later) (calendar u k strike near later)
+  pub calendar_dated : near ≤ later → AllByRecursion (Dated u k strike near later) (calendar u k strike near later)
   calendar_dated h = (
     record { underlying = refl; kind = refl; at = refl; above = omega arith; below = omega arith },
     (record { underlying = refl; kind = refl; at = refl; above = omega arith; below = omega arith }, tt),
@@ -95,8 +95,8 @@ pub vertical_read : (a b : Leg) (w : ℕ) → IsVertical w (a ∷ b ∷ []) → 
 vertical_read a b w v low high is-low is-high =
     let legs : List Leg = a ∷ b ∷ [] in
     let form : List Leg = vertical v.u v.k v.low v.high v.e in
-    let each : All (Within v.u v.e v.low v.high) legs = all_from (Within v.u v.e v.low v.high) legs form v.legs_are (vertical_within v.u v.low v.high v.e v.k (omega arith)) in
-    let kinds : All (λ l. l.series.kind ≡ v.k) legs = all_from (λ l. l.series.kind ≡ v.k) legs form v.legs_are (vertical_kind v.u v.low v.high v.e v.k) in
+    let each : AllByRecursion (Within v.u v.e v.low v.high) legs = all_from (Within v.u v.e v.low v.high) legs form v.legs_are (vertical_within v.u v.low v.high v.e v.k (omega arith)) in
+    let kinds : AllByRecursion (λ l. l.series.kind ≡ v.k) legs = all_from (λ l. l.series.kind ≡ v.k) legs form v.legs_are (vertical_kind v.u v.low v.high v.e v.k) in
     let ends : Reached strike_of legs v.low v.high = reached_from strike_of legs form v.low v.high v.legs_are (vertical_reached v.u v.low v.high v.e v.k) in
     let lo : low ≤ v.low = ends.lowest low (omega arith, (omega arith, tt)) in
     let hi : v.high ≤ high = ends.highest high (omega arith, (omega arith, tt)) in
@@ -108,7 +108,7 @@ pub calendar_read : (a b : Leg) → IsCalendar 0 (a ∷ b ∷ []) → (near late
 calendar_read a b v near later is-near is_later =
     let legs : List Leg = a ∷ b ∷ [] in
     let form : List Leg = calendar v.u v.k v.strike v.near v.later in
-    let each : All (Dated v.u v.k v.strike v.near v.later) legs = all_from (Dated v.u v.k v.strike v.near v.later) legs form v.legs_are (calendar_dated v.u v.k v.strike v.near v.later (omega arith)) in
+    let each : AllByRecursion (Dated v.u v.k v.strike v.near v.later) legs = all_from (Dated v.u v.k v.strike v.near v.later) legs form v.legs_are (calendar_dated v.u v.k v.strike v.near v.later (omega arith)) in
     let ends : Reached expiry_of legs v.near v.later = reached_from expiry_of legs form v.near v.later v.legs_are (calendar_reached v.u v.k v.strike v.near v.later) in
     let lo : near ≤ v.near = ends.lowest near (omega arith, (omega arith, tt)) in
     let hi : v.later ≤ later = ends.highest later (omega arith, (omega arith, tt)) in
@@ -125,8 +125,8 @@ pub butterfly_read : (a b c : Leg) (w : ℕ) → IsButterfly w (a ∷ b ∷ c �
 butterfly_read a b c w v low high width middle is-low is-high is-width is-middle =
     let legs : List Leg = a ∷ b ∷ c ∷ [] in
     let form : List Leg = butterfly v.u v.k v.low v.middle v.high v.e in
-    let each : All (Within v.u v.e v.low v.high) legs = all_from (Within v.u v.e v.low v.high) legs form v.legs_are (butterfly_within v.u v.low v.high v.e v.k v.middle (omega arith) (omega arith)) in
-    let kinds : All (λ l. l.series.kind ≡ v.k) legs = all_from (λ l. l.series.kind ≡ v.k) legs form v.legs_are (butterfly_kind v.u v.low v.high v.e v.k v.middle) in
+    let each : AllByRecursion (Within v.u v.e v.low v.high) legs = all_from (Within v.u v.e v.low v.high) legs form v.legs_are (butterfly_within v.u v.low v.high v.e v.k v.middle (omega arith) (omega arith)) in
+    let kinds : AllByRecursion (λ l. l.series.kind ≡ v.k) legs = all_from (λ l. l.series.kind ≡ v.k) legs form v.legs_are (butterfly_kind v.u v.low v.high v.e v.k v.middle) in
     let ends : Reached strike_of legs v.low v.high = reached_from strike_of legs form v.low v.high v.legs_are (butterfly_reached v.u v.low v.high v.e v.k v.middle) in
     let lo : low ≤ v.low = ends.lowest low (omega arith, (omega arith, (omega arith, tt))) in
     let hi : v.high ≤ high = ends.highest high (omega arith, (omega arith, (omega arith, tt))) in
@@ -139,7 +139,7 @@ pub box_read : (a b c d : Leg) (w : ℕ) → IsBox w (a ∷ b ∷ c ∷ d ∷ []
 box_read a b c d w v low high is-low is-high =
     let legs : List Leg = a ∷ b ∷ c ∷ d ∷ [] in
     let form : List Leg = box v.u v.low v.high v.e in
-    let each : All (Within v.u v.e v.low v.high) legs = all_from (Within v.u v.e v.low v.high) legs form v.legs_are (box_within v.u v.low v.high v.e (omega arith)) in
+    let each : AllByRecursion (Within v.u v.e v.low v.high) legs = all_from (Within v.u v.e v.low v.high) legs form v.legs_are (box_within v.u v.low v.high v.e (omega arith)) in
     let ends : Reached strike_of legs v.low v.high = reached_from strike_of legs form v.low v.high v.legs_are (box_reached v.u v.low v.high v.e) in
     let lo : low ≤ v.low = ends.lowest low (omega arith, (omega arith, (omega arith, (omega arith, tt)))) in
     let hi : v.high ≤ high = ends.highest high (omega arith, (omega arith, (omega arith, (omega arith, tt)))) in

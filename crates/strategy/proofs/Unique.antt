@@ -1,7 +1,7 @@
 -- Legs have one class, one width and one turning: their number, their sides, what they pay and their expiries tell the long forms apart.
 use Rattle.std.proofs.Common.{◌≡◌, ℕ, suc, ◌<◌, ◌≤◌, Bool, true, false, cond, eqb, ◌⊎◌, List, [], ◌∷◌, map, length, ℤ, pos, ◌+ℤ◌, neg_ℤ, ◌≤ℤ◌, ◌<ℤ◌, sym, refl, ap, ◌∙◌, inl, inr, arith}
 use lib.ListN.{length-map}
-use Rattle.std.specs.List.{AllByRecursion as All}
+use Rattle.std.specs.List.{AllByRecursion}
 use Rattle.std.proofs.lemmas.Int.{ints}
 use Rattle.std.proofs.lemmas.Bool.{ne_eqb}
 use Rattle.strategy.specs.declared.leg.Kind.{Kind}
@@ -46,7 +46,7 @@ one_more : (s : Side) (n : ℕ) (z : ℤ) → s ≡ Buy → z ≡ pos n → sign
 one_more Buy n z b e = omega (arith, ints)
 one_more Sell n z b e = absurd (let c : ◌≡◌ {A = ℕ} 0 1 = cc in omega arith)
 
-bought_balance : (legs : List Leg) → All (λ l. l.side ≡ Buy) legs → balance legs ≡ pos (length legs)
+bought_balance : (legs : List Leg) → AllByRecursion (λ l. l.side ≡ Buy) legs → balance legs ≡ pos (length legs)
 bought_balance [] h = refl
 bought_balance (l ∷ ls) h = one_more l.side (length ls) (balance ls) h.0 (bought_balance ls h.1)
 

@@ -1,6 +1,6 @@
 -- The long forms of a strategy, for legs in any order.
 use Rattle.std.specs.Prelude.{◌≡◌, ℕ, ◌+◌, ◌<◌, Bool, false, ◌⊎◌, List, [], ◌∷◌, length, Some, None, codes, Option}
-use Rattle.std.specs.List.{AllByRecursion as All}
+use Rattle.std.specs.List.{AllByRecursion}
 use Rattle.strategy.specs.declared.leg.Kind.{Kind}
 use Rattle.strategy.specs.declared.leg.Kind.TheVariants.{Call, Put}
 use Rattle.strategy.specs.declared.leg.Side.TheVariants.{Buy}
@@ -42,7 +42,7 @@ box u low high e =
 
 pub record IsBought (width : ℕ) (legs : List Leg) : Type 0 where
   pub some : 0 < length legs
-  pub all : All (λ l. l.side ≡ Buy) legs
+  pub all : AllByRecursion (λ l. l.side ≡ Buy) legs
   pub flat : width ≡ 0
 
 pub record IsVertical (width : ℕ) (legs : List Leg) : Type 0 where

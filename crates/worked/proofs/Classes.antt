@@ -1,6 +1,6 @@
 -- The class of legs that are written out.
 use Rattle.std.proofs.Common.{◌≡◌, ℕ, ◌+◌, ◌<◌, Bool, true, false, List, [], ◌∷◌, map, refl, inl, inr, arith}
-use Rattle.std.specs.List.{AllByRecursion as All}
+use Rattle.std.specs.List.{AllByRecursion}
 use Rattle.strategy.specs.declared.leg.Kind.{Kind}
 use Rattle.strategy.specs.declared.leg.Side.TheVariants.{Buy, Sell}
 use Rattle.strategy.specs.declared.leg.Leg.{Leg}
@@ -47,7 +47,7 @@ sell_buy e = absurd (let z : ◌≡◌ {A = ℕ} 0 1 = cc in omega arith)
 
 -- not all bought, and not worth from 0 to a width
 pub record Formless (legs : List Leg) : Type 0 where
-  pub mixed : All (λ l. l.side ≡ Buy) legs → ⊥
+  pub mixed : AllByRecursion (λ l. l.side ≡ Buy) legs → ⊥
   pub unbounded : (w : ℕ) → Worth legs w → ⊥
 
 module _ (legs : List Leg) where

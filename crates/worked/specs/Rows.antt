@@ -1,6 +1,6 @@
 -- What a row of the worked prices says.
 use Rattle.std.specs.Prelude.{◌≡◌, ℕ, List, [], ◌∷◌, ◌++◌, map, ℤ, pos, Ok, Err, Option, Result}
-use Rattle.std.specs.List.{AllByRecursion as All}
+use Rattle.std.specs.List.{AllByRecursion}
 use Rattle.strategy.specs.declared.leg.Leg.{Leg}
 use Rattle.strategy.specs.declared.leg.Side.{Side}
 use Rattle.strategy.specs.declared.leg.Series.{Series}
@@ -120,7 +120,7 @@ pub record Stands (r : Row) (p : Priced) : Type 0 where
   pub maximum : maximum_of p.strategy.class p.strategy.width (in_force r.notices) ≡ p.maximum
 
 pub record Holds (r : Row) : Type 0 where
-  pub prices : All (Stands r) r.priced
+  pub prices : AllByRecursion (Stands r) r.priced
   pub enters : answered (start r) (orders r.priced) ≡ answers r.priced
-  pub works : All (λ w. work_of r w.0 ≡ w.1) r.works
+  pub works : AllByRecursion (λ w. work_of r w.0 ≡ w.1) r.works
   pub sweeps : (t : State) × (left : Levels) × SweepStep (gate_of r) r.market (swept r.tape Done) r.tape t left

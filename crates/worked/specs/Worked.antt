@@ -1,6 +1,6 @@
 -- The worked prices, as rows of one table. The first eight are those of docs/worked-prices.md; the others pin what they leave open.
 use Rattle.std.specs.Prelude.{List, [], ◌∷◌, pos, Some, None}
-use Rattle.std.specs.List.{AllByRecursion as All}
+use Rattle.std.specs.List.{AllByRecursion}
 use Rattle.strategy.specs.declared.leg.Kind.TheVariants.{Call, Put}
 use Rattle.strategy.specs.declared.leg.Side.TheVariants.{Buy, Sell}
 use Rattle.strategy.specs.declared.class.Class.TheVariants.{Bought, Vertical, Calendar, Butterfly, BoxSpread, Other}
@@ -257,4 +257,4 @@ abbrev pub rows : List Row
 rows = box_row ∷ ladder_row ∷ vertical_row ∷ sell_row ∷ rounded_row ∷ bought_row ∷ butterfly_row ∷ absent_row ∷ calendar_row ∷ buffers_row ∷ []
 
 abbrev pub Worked_prices : Type 0
-Worked_prices = All Holds rows
+Worked_prices = AllByRecursion Holds rows

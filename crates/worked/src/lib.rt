@@ -1,5 +1,6 @@
 // The worked prices and an example day, true of the definitions of the gate.
 #![tactic(auto)]
+
 ghost use Rattle.std.specs.Prelude.{◌≡◌, length};
 ghost use Rattle.worked.specs.Worked.{rows, Worked_prices};
 ghost use Rattle.worked.specs.Example.{day, Example_day};

@@ -1,5 +1,5 @@
 use Rattle.std.proofs.Common.{◌≡◌, true, leb, get_or, take, sym, subst, arith}
-use Rattle.std.specs.List.{AllByRecursion as All}
+use Rattle.std.specs.List.{AllByRecursion}
 use Rattle.std.proofs.ByRecursion.{All-more}
 use Rattle.std.proofs.lemmas.Bool.{and_from, le-leb}
 use Rattle.lines.specs.Scanner.{within}
@@ -14,7 +14,7 @@ returns-then-n-most c =
     record {
       few = c.loop-b.invariant.1;
       inside = omega (arith, c.loop-b.invariant.0, c.loop-b.auto.b-index-end);
-      all = subst (λ k. All (λ b. within c.args.low c.args.high b ≡ true) (take k c.args.bytes.now)) (sym c.loop-b.invariant.0) all;
+      all = subst (λ k. AllByRecursion (λ b. within c.args.low c.args.high b ≡ true) (take k c.args.bytes.now)) (sym c.loop-b.invariant.0) all;
     }
 
 pub overflow_add-n : goal.overflow_add-n
@@ -35,5 +35,5 @@ returns c =
     record {
       few = c.loop-b.invariant.1;
       inside = omega (arith, c.loop-b.invariant.0, c.loop-b.auto.b-index-end);
-      all = subst (λ k. All (λ b. within c.args.low c.args.high b ≡ true) (take k c.args.bytes.now)) (sym c.loop-b.invariant.0) all;
+      all = subst (λ k. AllByRecursion (λ b. within c.args.low c.args.high b ≡ true) (take k c.args.bytes.now)) (sym c.loop-b.invariant.0) all;
     }

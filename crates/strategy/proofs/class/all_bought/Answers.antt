@@ -1,5 +1,5 @@
 use Rattle.std.proofs.Common.{◌≡◌, ℕ, ◌<◌, List, length, get_or, refl, arith}
-use Rattle.std.specs.List.{AllByRecursion as All}
+use Rattle.std.specs.List.{AllByRecursion}
 use Rattle.std.proofs.ByRecursion.{All-more, All-get_or}
 use Rattle.std.proofs.lemmas.List.{take_all}
 use Rattle.std.proofs.lemmas.Bool.{false≢true, ltb-true, lt-ltb}
@@ -24,7 +24,7 @@ loop-leg-preserved c =
 
 pub returns : goal.returns
 returns c =
-    let whole : All (λ x. x.side ≡ Buy) c.args.legs.now =
+    let whole : AllByRecursion (λ x. x.side ≡ Buy) c.args.legs.now =
     rw (take_all c.loop-leg.leg-index c.args.legs.now (omega arith)) at c.loop-leg.invariant in (
       λ h. record { some = ltb-true 0 (length c.args.legs.now) h; all = whole; flat = refl },
       λ h. lt-ltb 0 (length c.args.legs.now) h.some,
