@@ -7,6 +7,7 @@ use commands::line::read_line;
 use input::source::LineSource;
 use std::io;
 use std::io::{BufWriter, Write};
+use std::process::ExitCode;
 
 // A form is written in one way only, so that the line itself is its text.
 fn answer<W: Write>(out: &mut W, line: &[u8]) -> io::Result<()> {
@@ -39,10 +40,12 @@ fn run(rt: &HostRuntime) -> anyhow::Result<()> {
 }
 
 // What goes wrong with the input or the output is told in one line, and ends the program with status 1.
-fn main(rt: HostRuntime) -> anyhow::Result<()> {
-    let ended = run(&rt);
-    if let Err(error) = &ended {
-        let _ = eprintln!(rt; "form_check: {error}");
+fn main(rt: HostRuntime) -> ExitCode {
+    match run(&rt) {
+        Ok(()) => ExitCode::SUCCESS,
+        Err(error) => {
+            let _ = eprintln!(rt; "form_check: {error}");
+            ExitCode::FAILURE
+        }
     }
-    ended
 }
