@@ -8,6 +8,7 @@ mod tests;
 
 use print::print_row;
 use sheet::rows;
+use std::process::ExitCode;
 use venues::board::Board;
 
 fn run(rt: &HostRuntime) -> anyhow::Result<()> {
@@ -19,10 +20,12 @@ fn run(rt: &HostRuntime) -> anyhow::Result<()> {
 }
 
 // What goes wrong is told in one line, and ends the program with status 1.
-fn main(rt: HostRuntime) -> anyhow::Result<()> {
-    let ended = run(&rt);
-    if let Err(error) = &ended {
-        let _ = eprintln!(rt; "price_check: {error}");
+fn main(rt: HostRuntime) -> ExitCode {
+    match run(&rt) {
+        Ok(()) => ExitCode::SUCCESS,
+        Err(error) => {
+            let _ = eprintln!(rt; "price_check: {error}");
+            ExitCode::FAILURE
+        }
     }
-    ended
 }
