@@ -13,7 +13,7 @@ use Rattle.book.specs.declared.order.RestingOrder.{RestingOrder}
 use Rattle.book.specs.Resting.{Resting, put, reduced, leaving, one, resting_of}
 use Rattle.fills.specs.declared.fill.Fill.{Fill}
 use Rattle.fills.specs.Fills.{taken_side}
-use Rattle.fills.specs.Fillings.{filling_of, filling}
+use Rattle.fills.specs.Fillings.{filling_of}
 use Rattle.fills.specs.FillingLaws.{IsFilling}
 use Rattle.fills.proofs.Fillings.{filled}
 use Rattle.fills.proofs.Units.{after_takes}

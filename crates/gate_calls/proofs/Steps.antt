@@ -27,7 +27,7 @@ use Rattle.days.specs.State.{State, Line, tape_full, lookup}
 use Rattle.days.specs.Works.{is_open, line_for, matched, when_resting, working, Sweeps, volume}
 use Rattle.days.specs.Cancels.{rung_by, rung_in}
 use Rattle.days.specs.Entries.{placed, kept_in, entering, entered_in}
-use Rattle.days.specs.History.{since, replied, order, worked, Refusing, Quiet, Enters, Works, Swept, EnterStep, WorkStep, SweepStep, Step, Leads}
+use Rattle.days.specs.History.{since, replied, order, worked, Refusing, Quiet, Enters, Works, Swept, EnterStep, WorkStep, SweepStep, Step}
 use Rattle.days.specs.Laws.{LeadsOn}
 use Rattle.orders.proofs.Checked.{by_cases}
 use Rattle.days.proofs.Days.{goes_on}
@@ -112,12 +112,12 @@ module _ (s : State) (m : Levels) (z : ℤ) where
   pub not_open : is_open s.phase ≡ false → WorkStep s m z (reply.Refused gate.Phase) (since s s) s m
   not_open e = work_refused s m z gate.Phase (ap (λ b. rest_check b (lookup s.order z)) e)
 
-  module _ (is-open : is_open s.phase ≡ true) where
+  module _ (opened : is_open s.phase ≡ true) where
     at_order : (v : Option Resting) → v ≡ lookup s.order z → working s m z ≡ when_resting v room_check
-    at_order v e = ap (λ b. rest_check b (lookup s.order z)) is_open ∙ ap (λ x. when_resting x room_check) (sym e)
+    at_order v e = ap (λ b. rest_check b (lookup s.order z)) opened ∙ ap (λ x. when_resting x room_check) (sym e)
 
-    pub not-resting : None ≡ lookup s.order z → WorkStep s m z (reply.Refused gate.NotResting) (since s s) s m
-    not-resting e = work_refused s m z gate.NotResting (at_order None e)
+    pub not_resting : None ≡ lookup s.order z → WorkStep s m z (reply.Refused gate.NotResting) (since s s) s m
+    not_resting e = work_refused s m z gate.NotResting (at_order None e)
 
     module _ (o : RestingOrder) (found : Some (resting_of o) ≡ lookup s.order z) where
       at_room : (full : Bool) → tape_full s ≡ full → working s m z ≡ check (not full) gate.TapeFull (matched s m (resting_of o))
@@ -140,8 +140,8 @@ module _ (s : State) (m : Levels) (z : ℤ) where
 -- Sweep
 
 module _ (s : State) (m : Levels) where
-  pub not-swept : is_open s.phase ≡ false → SweepStep s m (reply.Refused gate.Phase) (since s s) s m
-  not-swept e =
+  pub not_swept : is_open s.phase ≡ false → SweepStep s m (reply.Refused gate.Phase) (since s s) s m
+  not_swept e =
       subst (λ b. MatchResult (check b gate.Phase (Ok tt)) (λ _. Swept s m (reply.Refused gate.Phase) (since s s) s m) (λ f. Quiet m (since s s) m × Refusing f s (reply.Refused gate.Phase) s)) (sym e)
       ((none_since s s refl, refl), (refl, refl))
 

@@ -1,5 +1,5 @@
 -- A search for the lowest-numbered order that would fill, and the lines of a sweep.
-use Rattle.std.proofs.Common.{◌≡◌, ℕ, ◌+◌, ◌*◌, ◌<◌, ◌≤◌, min, false, leb, List, [], ◌∷◌, ◌++◌, length, Some, None, Ok, Err, sym, refl, ap, ◌∙◌, subst, ⊎_elim, arith}
+use Rattle.std.proofs.Common.{◌≡◌, ℕ, ◌+◌, ◌*◌, ◌<◌, ◌≤◌, min, false, List, [], ◌∷◌, ◌++◌, length, Some, None, Ok, Err, sym, refl, ap, ◌∙◌, subst, ⊎_elim, arith}
 use Rattle.std.proofs.lemmas.List.{append-nil, append_assoc, length_push, length-append}
 use Rattle.std.proofs.lemmas.Bool.{cases_lt, cases_order, leb-false}
 use Rattle.market.specs.Levels.{Levels}
@@ -8,7 +8,7 @@ use Rattle.orders.specs.declared.fault.GateFault.TheVariants.{NotResting}
 use Rattle.orders.specs.Checks.{map_ok}
 use Rattle.orders.proofs.Checked.{err_ok}
 use Rattle.book.specs.declared.order.RestingOrder.{RestingOrder}
-use Rattle.book.specs.Resting.{Resting, NextOrder, resting_of}
+use Rattle.book.specs.Resting.{NextOrder, resting_of}
 use Rattle.fills.specs.declared.fill.Fill.{Fill}
 use Rattle.fills.specs.Fillings.{filling_of}
 use Rattle.days.specs.State.{State, Line, tape_full}

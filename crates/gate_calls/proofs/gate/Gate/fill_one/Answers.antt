@@ -8,7 +8,7 @@ use Rattle.days.specs.declared.reply.Reply.TheVariants as told
 use Rattle.days.specs.State.{lookup}
 use Rattle.days.specs.History.{since, WorkStep}
 use Rattle.gate_calls.specs.Model.{state}
-use Rattle.gate_calls.proofs.Steps.{not_open, not-resting, tape_full_lem, not_filled, work_done}
+use Rattle.gate_calls.proofs.Steps.{not_open, not_resting, tape_full_lem, not_filled, work_done}
 use Rattle.gate_calls.proofs.gate.Gate.fill_one.Goals as goal
 
 pub returns-then-not-is_open : goal.returns-then-not-is_open
@@ -16,7 +16,7 @@ returns-then-not-is_open g c = not_open (state c.args.self.now) (g.M.Market.leve
 
 pub returns-in_default : goal.returns-in_default
 returns-in_default g c =
-    not-resting (state c.args.self.now) (g.M.Market.levels c.args.market.now) c.args.number (sym c.is_open.ensures ∙ c.if-not-is_open.false) (c.in_default.ensures.is ∙ ap (lookup (state c.args.self.now).order) (to_z-of_z w32 c.args.number c.ranges.number))
+    not_resting (state c.args.self.now) (g.M.Market.levels c.args.market.now) c.args.number (sym c.is_open.ensures ∙ c.if-not-is_open.false) (c.in_default.ensures.is ∙ ap (lookup (state c.args.self.now).order) (to_z-of_z w32 c.args.number c.ranges.number))
 
 pub returns-then-is_tape_full : goal.returns-then-is_tape_full
 returns-then-is_tape_full g c =
@@ -25,7 +25,7 @@ returns-then-is_tape_full g c =
 
 pub returns-in_err-fill : goal.returns-in_err-fill
 returns-in_err-fill g c =
-    let p = err_from_is_err_and c.from-residual.result c.from-residual.ensures.1 in
+    let p = err_from_is_err_and c.from_residual.result c.from_residual.ensures.1 in
     rw (p.1, p.2)
     (not_filled (state c.args.self.now) (g.M.Market.levels c.args.market.now) c.args.number (sym c.is_open.ensures ∙ c.if-not-is_open.false) c.in-Some.order (c.in-Some.ensures.is ∙ ap (lookup (state c.args.self.now).order) (to_z-of_z w32 c.args.number c.ranges.number))
     (sym c.is_tape_full.ensures.value ∙ c.if-is_tape_full.false) _ (sym c.quote.ensures ∙ ap (map_ok filling_of) c.in_err-fill.was))
