@@ -6,7 +6,7 @@ use Rattle.session.proofs.Running.{ran}
 use Rattle.session.proofs.desk.run.Goals as goal
 
 pub returns-in_err-notices : goal.returns-in_err-notices
-returns-in_err-notices g c = MatchResult-from_err c.from-residual-in_err-notices.result _ _ c.from-residual-in_err-notices.ensures.0 (λ _. tt)
+returns-in_err-notices g c = MatchResult-from_err c.from_residual-in_err-notices.result _ _ c.from_residual-in_err-notices.ensures.0 (λ _. tt)
 
 pub returns : goal.returns
 returns g c =
