@@ -7,4 +7,4 @@ pub struct Session<'a, V> {
     venue: V,
 }
 
-pub mod lines;
+pub mod answering;
