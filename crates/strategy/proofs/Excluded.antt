@@ -33,14 +33,14 @@ flat_calendar : (legs : List Leg) (w : ℕ) → IsCalendar w legs → IsCalendar
 flat_calendar legs w v = record { u = v.u; k = v.k; strike = v.strike; near = v.near; later = v.later; apart = v.apart; flat = refl; legs_are = v.legs_are }
 
 -- legs that are no long form
-pub record None_of (legs : List Leg) : Type 0 where
+pub record NoneOf (legs : List Leg) : Type 0 where
   pub bought : IsBought 0 legs → ⊥
   pub vertical : (w : ℕ) → IsVertical w legs → ⊥
   pub calendar : IsCalendar 0 legs → ⊥
   pub butterfly : (w : ℕ) → IsButterfly w legs → ⊥
   pub box : (w : ℕ) → IsBox w legs → ⊥
 
-pub excluded : (legs : List Leg) → None_of legs → (c : Class) (w : ℕ) → Long c w legs → ⊥
+pub excluded : (legs : List Leg) → NoneOf legs → (c : Class) (w : ℕ) → Long c w legs → ⊥
 excluded legs n Bought w v = n.bought (flat_bought legs w v)
 excluded legs n Vertical w v = n.vertical w v
 excluded legs n Calendar w v = n.calendar (flat_calendar legs w v)

@@ -116,12 +116,12 @@ calendar_read a b v near later is-near is_later =
     let eh : v.later ≡ later = omega arith in
     (omega arith, rw (← each.0.underlying, ← each.0.kind, ← each.0.at, el, eh) at v.legs_are)
 
-pub record Butterfly_read (a b c : Leg) (low middle high width : ℕ) : Type 0 where
+pub record ButterflyRead (a b c : Leg) (low middle high width : ℕ) : Type 0 where
   pub wide : 0 < width
   pub above : middle + width ≡ high
   pub legs_are : Reordered (a ∷ b ∷ c ∷ []) (butterfly a.series.underlying a.series.kind low middle high a.series.expiry)
 
-pub butterfly_read : (a b c : Leg) (w : ℕ) → IsButterfly w (a ∷ b ∷ c ∷ []) → (low high width middle : ℕ) → low ≡ min (min a.series.strike b.series.strike) c.series.strike → high ≡ max (max a.series.strike b.series.strike) c.series.strike → width ≡ (high - low) / 2 → middle ≡ low + width → Butterfly_read a b c low middle high width
+pub butterfly_read : (a b c : Leg) (w : ℕ) → IsButterfly w (a ∷ b ∷ c ∷ []) → (low high width middle : ℕ) → low ≡ min (min a.series.strike b.series.strike) c.series.strike → high ≡ max (max a.series.strike b.series.strike) c.series.strike → width ≡ (high - low) / 2 → middle ≡ low + width → ButterflyRead a b c low middle high width
 butterfly_read a b c w v low high width middle is-low is-high is-width is-middle =
     let legs : List Leg = a ∷ b ∷ c ∷ [] in
     let form : List Leg = butterfly v.u v.k v.low v.middle v.high v.e in

@@ -6,7 +6,7 @@ use Rattle.strategy.specs.Forms.{vertical, Classified}
 use Rattle.days.specs.History.{Leads}
 use Rattle.days.proofs.Days.{laws}
 use Rattle.worked.specs.Words.{is}
-use Rattle.worked.specs.Example.{gate6, market2, lines, morning, Example_day}
+use Rattle.worked.specs.Example.{gate6, market2, lines, morning, ExampleDay}
 use Rattle.worked.proofs.Classes.{vertical_form}
 use Rattle.worked.proofs.Sweeps.{sweeps}
 
@@ -37,7 +37,7 @@ morning_leads = (
   ((refl, refl), (refl, refl)),
 )
 
-pub example : Example_day
+pub example : ExampleDay
 example = (
   (morning_leads, sweeps gate6 market2 lines (laws morning gate6 morning_leads).numbered (refl, refl, refl, (refl, refl, refl, refl))),
   ((refl, refl), (refl, refl)),

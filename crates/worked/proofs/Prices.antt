@@ -14,7 +14,7 @@ use Rattle.orders.specs.declared.outcome.Outcome.TheVariants.{Done}
 use Rattle.days.specs.State.{State, in_force}
 use Rattle.days.specs.History.{swept, Swept}
 use Rattle.worked.specs.Rows.{Row, Priced, Stands, Holds, start, orders, gate_of, traded, options}
-use Rattle.worked.specs.Worked.{box_row, ladder_row, vertical_row, sell_row, rounded_row, bought_row, butterfly_row, absent_row, calendar_row, buffers_row, Worked_prices}
+use Rattle.worked.specs.Worked.{box_row, ladder_row, vertical_row, sell_row, rounded_row, bought_row, butterfly_row, absent_row, calendar_row, buffers_row, WorkedPrices}
 use Rattle.worked.proofs.Classes.{vertical_form, butterfly_form, box_form, sell_buy, other}
 use Rattle.worked.proofs.Sweeps.{entered_fresh, gate_then, market_then, Writes, sweeps}
 
@@ -145,5 +145,5 @@ buffers = record {
   sweeps = writes buffers_row refl;
 }
 
-pub worked : Worked_prices
+pub worked : WorkedPrices
 worked = (box, (ladder, (vertical, (sold, (rounded, (bought, (butterfly, (absent, (calendar, (buffers, tt))))))))))

@@ -118,5 +118,5 @@ day =
     ∷ morning
 
 -- the calls lead a new gate to the last state
-abbrev pub Example_day : Type 0
-Example_day = Leads day gate7
+abbrev pub ExampleDay : Type 0
+ExampleDay = Leads day gate7

@@ -256,5 +256,5 @@ buffers_row = record {
 abbrev pub rows : List Row
 rows = box_row ∷ ladder_row ∷ vertical_row ∷ sell_row ∷ rounded_row ∷ bought_row ∷ butterfly_row ∷ absent_row ∷ calendar_row ∷ buffers_row ∷ []
 
-abbrev pub Worked_prices : Type 0
-Worked_prices = AllByRecursion Holds rows
+abbrev pub WorkedPrices : Type 0
+WorkedPrices = AllByRecursion Holds rows

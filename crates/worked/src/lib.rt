@@ -2,13 +2,13 @@
 #![tactic(auto)]
 
 ghost use Rattle.std.specs.Prelude.{◌≡◌, length};
-ghost use Rattle.worked.specs.Worked.{rows, Worked_prices};
-ghost use Rattle.worked.specs.Example.{day, Example_day};
+ghost use Rattle.worked.specs.Worked.{rows, WorkedPrices};
+ghost use Rattle.worked.specs.Example.{day, ExampleDay};
 
 // The worked prices, all rows of one table: answers how many rows there are.
 pub fn worked_prices() -> usize
     ensures count { result ≡ length rows }
-    ensures hold { Worked_prices }
+    ensures hold { WorkedPrices }
 {
     10
 }
@@ -16,7 +16,7 @@ pub fn worked_prices() -> usize
 // The calls of an example day, which lead a new gate to its last state: answers how many calls there are.
 pub fn example_day() -> usize
     ensures count { result ≡ length day }
-    ensures leads { Example_day }
+    ensures leads { ExampleDay }
 {
     9
 }
