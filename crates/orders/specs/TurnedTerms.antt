@@ -1,5 +1,5 @@
 -- An order in the terms of its strategy.
-use Rattle.std.specs.Prelude.{ℕ, Bool, List, map, ℤ, Some, None, Option}
+use Rattle.std.specs.Prelude.{ℕ, Bool, false, List, map, ℤ, Some, None, Option}
 use Rattle.strategy.specs.declared.class.Class.{Class}
 use Rattle.strategy.specs.declared.class.Strategy.{Strategy}
 use Rattle.strategy.specs.declared.leg.Side.{Side}
@@ -20,6 +20,10 @@ pub record Terms : Type 0 where
 
 abbrev pub terms_of : TurnedOrder → Terms
 terms_of o = record { class = o.class; width = o.width; side = o.side; limit = o.limit; legs = legs_in o.legs }
+
+-- the strategy of an order that stands in its terms already
+abbrev pub strategy_of : TurnedOrder → Strategy
+strategy_of o = record { class = o.class; width = o.width; turned = false }
 
 abbrev pub turned_limit : Bool → Option ℤ → Option ℤ
 turned_limit turned None = None

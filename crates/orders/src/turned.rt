@@ -2,7 +2,7 @@
 ghost use Rattle.std.specs.Prelude.{◌≡◌, true};
 ghost use Rattle.orders.specs.Entered.{entered_order};
 ghost use Rattle.orders.specs.Ranges.{limit_in_range};
-ghost use Rattle.orders.specs.TurnedTerms.{turned_limit, terms_of, turned_terms};
+ghost use Rattle.orders.specs.TurnedTerms.{turned_limit, terms_of, strategy_of, turned_terms};
 
 use crate::legs::OrderLegs;
 use crate::order::CheckedOrder;
@@ -19,14 +19,24 @@ pub struct TurnedOrder {
     pub legs: OrderLegs,
 }
 
+impl TurnedOrder {
+    // The strategy whose terms these are.
+    pub fn strategy(&self) -> Strategy
+        ensures { result ≡ strategy_of self.now }
+    {
+        Strategy {
+            class: self.class,
+            width: self.width,
+            turned: false,
+        }
+    }
+}
+
 fn turned_limit(limit: Option<i32>, turned: bool) -> Option<i32>
     requires { limit_in_range limit ≡ true }
     ensures { result ≡ turned_limit turned limit }
 {
-    match limit {
-        Some(limit) if turned => Some(-limit),
-        limit => limit,
-    }
+    limit.map(|limit| if turned { -limit } else { limit })
 }
 
 impl CheckedOrder {
