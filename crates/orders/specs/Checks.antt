@@ -1,5 +1,5 @@
 -- Checks one after the other: the first that fails gives the refusal.
-use Rattle.std.specs.Prelude.{ℕ, ◌+◌, Bool, true, false, cond, ◌&&◌, ◌||◌, List, [], ◌∷◌, ℤ, pos, negsuc, Some, None, Ok, Err, Option, Result, int_le}
+use Rattle.std.specs.Prelude.{ℕ, ◌+◌, Bool, cond, ◌&&◌, List, [], ◌∷◌, ℤ, pos, negsuc, Some, None, Ok, Err, Option, Result, int_le}
 
 -- what comes after if the test is true, else refused with this fault
 abbrev pub check : {A B : Type 0} → Bool → B → Result A B → Result A B
@@ -14,14 +14,6 @@ check_at (Some place) fault next = Err (fault place)
 abbrev pub first_bad : {A : Type 0} → (A → Bool) → ℕ → List A → Option ℕ
 first_bad good n [] = None
 first_bad good n (x ∷ xs) = cond (good x) (first_bad good (n + 1) xs) (Some n)
-
-abbrev pub any_of : {A : Type 0} → (A → Bool) → List A → Bool
-any_of p [] = false
-any_of p (x ∷ xs) = p x || any_of p xs
-
-abbrev pub all_of : {A : Type 0} → (A → Bool) → List A → Bool
-all_of p [] = true
-all_of p (x ∷ xs) = p x && all_of p xs
 
 -- the same answer, with f of its value where it is no refusal
 abbrev pub map_ok : {A B C : Type 0} → (A → B) → Result A C → Result B C

@@ -1,11 +1,12 @@
 -- The checks of an order and of its legs.
-use Rattle.std.specs.Prelude.{ℕ, zero, suc, ◌+◌, ◌*◌, ◌%◌, Bool, cond, not, ◌&&◌, ◌||◌, List, [], ◌∷◌, ◌++◌, map, length, take, Some, None, Ok, Option, Result, nat_eq, nat_le, nat_lt}
+use Rattle.std.specs.Prelude.{ℕ, ◌+◌, ◌*◌, ◌%◌, Bool, cond, not, ◌&&◌, ◌||◌, List, [], ◌∷◌, ◌++◌, map, length, take, Some, None, Ok, Option, Result, nat_eq, nat_le, nat_lt}
+use Rattle.std.specs.List.{list_any, list_all, range_with_len}
 use Rattle.market.specs.declared.leg.TradedLeg.{TradedLeg}
 use Rattle.orders.specs.declared.fault.OrderFault.{OrderFault}
 use Rattle.orders.specs.declared.fault.OrderFault.TheVariants.{LegCount, Range, Repeated, Ratios}
 use Rattle.orders.specs.declared.records.LegTerms.{LegTerms}
 use Rattle.orders.specs.declared.records.LegList.{LegList}
-use Rattle.orders.specs.Checks.{check, check_at, first_bad, any_of, all_of}
+use Rattle.orders.specs.Checks.{check, check_at, first_bad}
 use Rattle.orders.specs.Ranges.{leg_in_range, ratio_of, series_number, traded_leg}
 
 -- the legs of a list that has two to four
@@ -21,7 +22,7 @@ legs_in_range legs = check_at (first_bad leg_in_range 1 legs) Range (Ok (map tra
 
 -- whether one of some series is k
 abbrev pub names : ℕ → List ℕ → Bool
-names k series = any_of (λ s. nat_eq s k) series
+names k series = list_any (λ s. nat_eq s k) series
 
 -- the first leg whose series an earlier one names; legs are counted from n
 abbrev pub repeated : List ℕ → ℕ → List ℕ → Option ℕ
@@ -30,23 +31,18 @@ repeated earlier n (k ∷ ks) = cond (names k earlier) (Some n) (repeated (earli
 
 -- whether a ratio is above three times one of some ratios
 abbrev pub above_thrice : ℕ → List ℕ → Bool
-above_thrice a ratios = any_of (λ b. nat_lt (3 * b) a) ratios
+above_thrice a ratios = list_any (λ b. nat_lt (3 * b) a) ratios
 
 -- a ratio is above three times another
 abbrev pub uneven : List ℕ → Bool
-uneven ratios = any_of (λ a. above_thrice a ratios) ratios
+uneven ratios = list_any (λ a. above_thrice a ratios) ratios
 
 abbrev pub divides_all : ℕ → List ℕ → Bool
-divides_all d ratios = all_of (λ r. nat_eq (r % d) 0) ratios
-
--- so many numbers from n up
-abbrev pub up_from : ℕ → ℕ → List ℕ
-up_from n zero = []
-up_from n (suc more) = n ∷ up_from (n + 1) more
+divides_all d ratios = list_all (λ r. nat_eq (r % d) 0) ratios
 
 -- a number above 1 divides all ratios: one of 2 to 12, since they are at most 12
 abbrev pub reducible : List ℕ → Bool
-reducible ratios = any_of (λ d. divides_all d ratios) (up_from 2 11)
+reducible ratios = list_any (λ d. divides_all d ratios) (range_with_len 2 11)
 
 -- the legs as a market trades them, or why they are refused
 abbrev pub legs_checked : List LegTerms → Result (List TradedLeg) OrderFault
