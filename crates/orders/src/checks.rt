@@ -22,22 +22,16 @@ use strategy::legs::Legs;
 fn limit_in_range(limit: Option<i32>) -> bool
     ensures { result ≡ limit_in_range limit }
 {
-    match limit {
-        Some(limit) => -20_000_000 <= limit && limit <= 20_000_000,
-        None => true,
-    }
+    limit.is_none_or(|limit| (-20_000_000..=20_000_000).contains(&limit))
 }
 
 fn checked_quantity(quantity: i32) -> Result<Quantity, OrderFault>
     ensures { map_ok units_of result ≡ check (quantity_in_range quantity) (Range 0) (Ok (amount quantity)) }
 {
-    let Ok(units) = u16::try_from(quantity) else {
-        return Err(OrderFault::Range(0));
-    };
-    match Quantity::new(units) {
-        Some(quantity) => Ok(quantity),
-        None => Err(OrderFault::Range(0)),
-    }
+    u16::try_from(quantity)
+        .ok()
+        .and_then(Quantity::new)
+        .ok_or(OrderFault::Range(0))
 }
 
 fn two(a: LegTerms, b: LegTerms) -> Result<Legs<TradedLeg>, OrderFault>

@@ -15,7 +15,7 @@ impl Quantity {
         ensures ranged { is_some result ≡ in_range units }
         ensures value { IfSome result (λ q. q.units ≡ units) }
     {
-        if 1 <= units && units <= 10_000 {
+        if (1..=10_000).contains(&units) {
             Some(Quantity { units })
         } else {
             None

@@ -15,10 +15,10 @@ pub(crate) fn in_range(n: i32, low: u32, high: u32, place: u8) -> Result<u32, Or
     ensures value { result ≡ check (between (pos low) (pos high) n) (Range place) (Ok (amount n)) }
     ensures top { elim result [ Ok v ↦ v ≤ high | Err _ ↦ Unit {0} ] }
 {
-    match u32::try_from(n) {
-        Ok(n) if low <= n && n <= high => Ok(n),
-        _ => Err(OrderFault::Range(place)),
-    }
+    u32::try_from(n)
+        .ok()
+        .filter(|n| (low..=high).contains(n))
+        .ok_or(OrderFault::Range(place))
 }
 
 impl SeriesTerms {
