@@ -8,9 +8,8 @@ use Rattle.answers.specs.declared.answer.Answer.{Answer}
 use Rattle.answers.specs.declared.answer.Answer.TheVariants.{Series, Notice, Quote, Level, Order, Phase, Cancel, Work, Sweep, Net, Refused}
 use Rattle.orders.specs.declared.fault.Layer.TheVariants as layers
 use Rattle.strategy.specs.Forms.{class_name}
-use Rattle.orders.specs.Words.{bell_name}
+use Rattle.orders.specs.Words.{bell_name, outcome_name}
 use Rattle.orders.specs.Faults.{layer_name}
-use Rattle.answers.specs.Words.{outcome_name}
 
 -- a price, or none
 abbrev pub side : Option ℤ → Atom

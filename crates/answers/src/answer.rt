@@ -1,7 +1,7 @@
 // The answers, one for each kind of line, and the refusals.
-use crate::words::Outcome;
 use orders::bell::Bell;
 use orders::fault::Layer;
+use orders::outcome::Outcome;
 use strategy::class::Class;
 
 #[derive(Clone, Copy)]

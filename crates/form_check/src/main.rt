@@ -17,7 +17,7 @@ fn answer<W: Write>(out: &mut W, line: &[u8]) -> io::Result<()> {
     };
     match read_line(line, feed) {
         Ok(_) => out.write_all(line)?,
-        Err(fault) => out.write_all(Answer::of_line_fault(fault).line().as_bytes())?,
+        Err(fault) => out.write_all(Answer::from(fault).line().as_bytes())?,
     }
     out.write_all(b"\n")
 }

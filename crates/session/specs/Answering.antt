@@ -6,8 +6,6 @@ use Rattle.line_writer.specs.Areas.{Written}
 use Rattle.answers.specs.declared.answer.Answer.{Answer}
 use Rattle.answers.specs.declared.answer.Answer.TheVariants as answer
 use Rattle.answers.specs.Said.{said, refusal}
-use Rattle.answers.specs.declared.words.Outcome.{Outcome}
-use Rattle.answers.specs.declared.words.Outcome.TheVariants.{Done, Full}
 use Rattle.commands.specs.declared.command.Command.{Command}
 use Rattle.commands.specs.declared.command.Command.TheVariants.{Series, Notice, Quote, Level, Enter, Phase, Cancel, Work, Sweep, Net}
 use Rattle.commands.specs.Understood.{Answered}
@@ -17,8 +15,6 @@ use Rattle.market.specs.declared.quote.MarketFault.{MarketFault}
 use Rattle.orders.specs.declared.fault.GateFault.{GateFault}
 use Rattle.orders.specs.declared.fault.GateFault.TheVariants as gate
 use Rattle.orders.specs.declared.records.LegList.{LegList}
-use Rattle.orders.specs.declared.outcome.Outcome as ended
-use Rattle.orders.specs.declared.outcome.Outcome.TheVariants as end
 use Rattle.days.specs.declared.call.Call.{Call}
 use Rattle.days.specs.declared.call.Call.TheVariants as call
 use Rattle.days.specs.declared.reply.Reply.{Reply}
@@ -31,11 +27,6 @@ use Rattle.session.specs.Views.{View}
 
 -- Answers
 
--- how a sweep ended, as an answer says it
-abbrev pub outcome_of : ended.Outcome → Outcome
-outcome_of end.Done = Done
-outcome_of end.Full = Full
-
 abbrev pub answer_of : Reply → Answer
 answer_of (reply.Series n) = answer.Series n
 answer_of (reply.Notice n) = answer.Notice n
@@ -43,7 +34,7 @@ answer_of (reply.Phase bell units) = answer.Phase bell units
 answer_of (reply.Order x) = answer.Order x.number x.class
 answer_of (reply.Cancel units) = answer.Cancel units
 answer_of (reply.Work x) = answer.Work x.units x.net
-answer_of (reply.Sweep x) = answer.Sweep x.lines x.units (outcome_of x.outcome)
+answer_of (reply.Sweep x) = answer.Sweep x.lines x.units x.outcome
 answer_of (reply.Refused f) = gate_refusal f
 
 -- a line of another market is none that is known

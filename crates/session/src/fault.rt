@@ -45,7 +45,7 @@ impl SessionFault {
         ensures { result ≡ fault_answer self }
     {
         match self {
-            SessionFault::Line(fault) => Answer::of_line_fault(fault),
+            SessionFault::Line(fault) => Answer::from(fault),
             SessionFault::Gate(fault) => Answer::Refused {
                 number: u32::from(fault.number()),
                 layer: fault.layer(),

@@ -72,18 +72,20 @@ fn price(value: Option<i64>) -> Field<'static>
     }
 }
 
-impl Answer {
-    // How a fault of the line layer is answered.
-    pub fn of_line_fault(fault: LineFault) -> Self
-        ensures { result ≡ refusal fault }
-    {
+// How a fault of the line layer is answered.
+impl From<LineFault> for Answer {
+    ghost from_gives = { λ fault answer. answer ≡ refusal fault };
+
+    fn from(fault: LineFault) -> Self {
         Answer::Refused {
             number: u32::from(fault.number()),
             layer: Layer::Line,
             place: fault.place() as u64,
         }
     }
+}
 
+impl Answer {
     // The answer's text. None is longer than a line.
     pub fn line(self) -> Line
         ensures text { held result ≡ said self }

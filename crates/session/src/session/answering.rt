@@ -3,7 +3,7 @@ ghost use Rattle.std.specs.Prelude.{◌≡◌, MatchResult};
 ghost use Rattle.line_writer.specs.Areas.{TooSmall};
 ghost use Rattle.gate_calls.specs.Model.{state};
 ghost use Rattle.gate_calls.specs.Promises.{netting};
-ghost use Rattle.session.specs.Answering.{told, told_by, outcome_of, answer_of, net_answer, Makes, Updates, Obeys, Does, Answers};
+ghost use Rattle.session.specs.Answering.{told, told_by, answer_of, net_answer, Makes, Updates, Obeys, Does, Answers};
 ghost use Rattle.session.specs.Days.{HandsOn};
 ghost use Rattle.session.specs.Views.{view};
 
@@ -11,7 +11,6 @@ use super::Session;
 use crate::fault::SessionFault;
 use crate::venue::Venue;
 use answers::answer::Answer;
-use answers::words::Outcome as SaidOutcome;
 use commands::command::{Command, Feed};
 use commands::line::read_line;
 use days::call::Call;
@@ -20,7 +19,6 @@ use gate_calls::gate::Gate;
 use line_writer::line::CAPACITY;
 use lines::fault::LineFault;
 use orders::fault::GateFault;
-use orders::outcome::Outcome;
 use orders::records::LegList;
 
 // The lines of every market.
@@ -28,16 +26,6 @@ const EVERY: Feed = Feed {
     quotes: true,
     levels: true,
 };
-
-// How a sweep ended, as an answer says it.
-fn said_outcome(outcome: Outcome) -> SaidOutcome
-    ensures { result ≡ outcome_of outcome }
-{
-    match outcome {
-        Outcome::Done => SaidOutcome::Done,
-        Outcome::Full => SaidOutcome::Full,
-    }
-}
 
 // A net price, as an answer says it.
 fn cents(price: Option<i32>) -> Option<i64>
@@ -72,7 +60,7 @@ fn answer_of(reply: Reply) -> Result<Answer, GateFault>
         Reply::Sweep(tally) => Ok(Answer::Sweep {
             lines: u32::from(tally.lines),
             units: u64::from(tally.units),
-            outcome: said_outcome(tally.outcome),
+            outcome: tally.outcome,
         }),
         Reply::Refused(fault) => Err(fault),
     }
