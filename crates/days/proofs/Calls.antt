@@ -1,11 +1,10 @@
 -- What one call adds to the laws.
-use Rattle.std.proofs.Common.{◌≡◌, ℕ, ◌+◌, ◌≤◌, false, cond, not, eqb, leb, ◌⊎◌, List, [], ◌∷◌, ◌++◌, length, ℤ, pos, negsuc, IfSome, Some, None, Ok, Option, sym, refl, ap, ◌∙◌, subst, inl, inr, ⊎_elim, arith}
+use Rattle.std.proofs.Common.{◌≡◌, ℕ, ◌+◌, ◌≤◌, false, cond, not, eqb, leb, ◌⊎◌, List, [], ◌∷◌, ◌++◌, length, ℤ, pos, negsuc, IfSome, Some, None, Ok, Err, Option, sym, refl, ap, ◌∙◌, subst, inl, inr, ⊎_elim, arith}
 use Rattle.book.specs.Resting.{open_units as units_open}
 use Rattle.std.specs.List.{AllByRecursion}
 use Rattle.std.proofs.lemmas.List.{append-nil}
 use Rattle.std.proofs.lemmas.Option.{MatchOption-at_some}
 use Rattle.std.proofs.lemmas.Bool.{both_ways, not-true, cases_eq, cases_Bool, cond-true, cond-false, cond_both, eq-eqb, ne_eqb, leb-false}
-use Rattle.strategy.specs.declared.class.Class.{Class}
 use Rattle.strategy.specs.declared.class.Strategy.{Strategy}
 use Rattle.strategy.specs.Forms.{Classified}
 use Rattle.strategy.proofs.Unique.{unique}
@@ -34,7 +33,7 @@ use Rattle.fills.specs.Fillings.{filling}
 use Rattle.days.specs.declared.call.Call.{Call}
 use Rattle.days.specs.declared.call.Call.TheVariants as call
 use Rattle.days.specs.declared.reply.Acceptance.{Acceptance}
-use Rattle.days.specs.declared.reply.Reply.{Reply}
+use Rattle.days.specs.Verdicts.{Verdict}
 use Rattle.days.specs.declared.reply.Reply.TheVariants as reply
 use Rattle.days.specs.State.{State, Line, in_force, lookup, with_phase}
 use Rattle.days.specs.Listings.{is_closed, listing, listed_in, posting, posted_in}
@@ -119,9 +118,6 @@ still_core h s e q k = record {
 
 -- Refusals
 
-refused_order : (f : GateFault) (n : ℕ) (c : Class) → reply.Refused f ≡ reply.Order (record { number = n; class = c }) → ⊥
-refused_order f n c e = let z : ◌≡◌ {A = ℕ} 0 1 = cc in omega arith
-
 none_closed : (b : Bell) (n : ℕ) (found : Option ℕ) → closed_units b (Some n) found ≡ None
 none_closed bell.Open n found = refl
 none_closed bell.Halt n found = refl
@@ -132,7 +128,7 @@ none_of : (z : ℤ) (n : ℕ) → of_order z n None ≡ None
 none_of (pos k) n = cond_both (eqb k n) None None (λ v. v ≡ None) (λ e. refl) (λ e. refl)
 none_of (negsuc k) n = refl
 
-refused_cancels : (c : Call) (f : GateFault) (s : State) (n : ℕ) → cancelled_by c (reply.Refused f) s n ≡ None
+refused_cancels : (c : Call) (f : GateFault) (s : State) (n : ℕ) → cancelled_by c (Err f) s n ≡ None
 refused_cancels (call.Series t) f s n = refl
 refused_cancels (call.Notice t) f s n = refl
 refused_cancels (call.Phase b) f s n = none_closed b (number_of f) (open_at s n)
@@ -141,7 +137,7 @@ refused_cancels (call.Cancel z) f s n = none_of z n
 refused_cancels (call.Work z) f s n = refl
 refused_cancels call.Sweep f s n = refl
 
-refused_lists : (c : Call) (f : GateFault) → listed_by c (reply.Refused f) ≡ []
+refused_lists : (c : Call) (f : GateFault) → listed_by c (Err f) ≡ []
 refused_lists (call.Series t) f = refl
 refused_lists (call.Notice t) f = refl
 refused_lists (call.Phase b) f = refl
@@ -150,7 +146,7 @@ refused_lists (call.Cancel z) f = refl
 refused_lists (call.Work z) f = refl
 refused_lists call.Sweep f = refl
 
-refused_posts : (c : Call) (f : GateFault) → posted_by c (reply.Refused f) ≡ []
+refused_posts : (c : Call) (f : GateFault) → posted_by c (Err f) ≡ []
 refused_posts (call.Series t) f = refl
 refused_posts (call.Notice t) f = refl
 refused_posts (call.Phase b) f = refl
@@ -159,10 +155,10 @@ refused_posts (call.Cancel z) f = refl
 refused_posts (call.Work z) f = refl
 refused_posts call.Sweep f = refl
 
-refused_still : (h : List Event) (c : Call) (a : Reply) (f : GateFault) (s : State) (m : Levels) (fs : List Line) (m' : Levels) → a ≡ reply.Refused f → Still h (as_event c a s m fs m')
+refused_still : (h : List Event) (c : Call) (a : Verdict) (f : GateFault) (s : State) (m : Levels) (fs : List Line) (m' : Levels) → a ≡ Err f → Still h (as_event c a s m fs m')
 refused_still h c a f s m fs m' is =
     subst (λ b. Still h (as_event c b s m fs m')) (sym is) (record {
-      accepts_none = λ n x p. refused_order f n x.strategy.class p.answered;
+      accepts_none = λ n x p. err_ok f _ p.answered;
       cancels_none = refused_cancels c f s;
       lists_none = refused_lists c f;
       posts_none = refused_posts c f;
@@ -228,7 +224,7 @@ resting_found (Some o) u e = (o, refl, cc)
 
 -- Enter
 
-same_number : (x y : Acceptance) → reply.Order x ≡ reply.Order y → x.number ≡ y.number
+same_number : (x y : Acceptance) → ◌≡◌ {A = Verdict} (Ok (reply.Order x)) (Ok (reply.Order y)) → x.number ≡ y.number
 same_number x y e = let same : x ≡ y = cc in ap (λ (z : Acceptance). z.number) same
 
 plain_exempt : channel.Plain ≡ channel.Exempt → ⊥
@@ -242,7 +238,7 @@ numbered s n e =
 
 -- Every call
 
-module _ (h : List Event) (s : State) (k : Core h s) (a : Reply) (m m' : Levels) (fs : List Line) (t : State) where
+module _ (h : List Event) (s : State) (k : Core h s) (a : Verdict) (m m' : Levels) (fs : List Line) (t : State) where
   abbrev by : Call → Event
   by c = as_event c a s m fs m'
 
@@ -269,10 +265,10 @@ module _ (h : List Event) (s : State) (k : Core h s) (a : Reply) (m m' : Levels)
   refused_said : (c : Call) (f : GateFault) → Guarded h (by c) → Quiet m fs m' → Refusing f s a t → Said h (by c) t
   refused_said c f g quiet (answers, same) = quiet_said c s refl same g quiet (still_core h s (by c) (refused_still h c a f s m fs m' answers) k)
 
-  listed_said : (x : SeriesTerms) (n : ℕ) → Guarded h (by (call.Series x)) → Quiet m fs m' → a ≡ reply.Series n → t ≡ listed_in s x → Said h (by (call.Series x)) t
+  listed_said : (x : SeriesTerms) (n : ℕ) → Guarded h (by (call.Series x)) → Quiet m fs m' → a ≡ Ok (reply.Series n) → t ≡ listed_in s x → Said h (by (call.Series x)) t
   listed_said x n g quiet answers effect =
       quiet_said (call.Series x) (listed_in s x) refl effect g quiet (record {
-        series = ap (λ l. l ++ series_of x ∷ []) k.series ∙ ap (λ (b : Reply). listed h ++ listed_by (call.Series x) b) (sym answers);
+        series = ap (λ l. l ++ series_of x ∷ []) k.series ∙ ap (λ (b : Verdict). listed h ++ listed_by (call.Series x) b) (sym answers);
         notices = nothing_more s.notices (posted h) [] k.notices refl;
         orders = orders_stay h s (by (call.Series x)) k.orders (none_accepted h (by (call.Series x)) (λ i. omega arith)) (λ j. refl);
         closed = k.closed;
@@ -280,11 +276,11 @@ module _ (h : List Event) (s : State) (k : Core h s) (a : Reply) (m m' : Levels)
         few = k.few;
       })
 
-  posted_said : (x : NoticeTerms) (n : ℕ) → Guarded h (by (call.Notice x)) → Quiet m fs m' → a ≡ reply.Notice n → t ≡ posted_in s x → Said h (by (call.Notice x)) t
+  posted_said : (x : NoticeTerms) (n : ℕ) → Guarded h (by (call.Notice x)) → Quiet m fs m' → a ≡ Ok (reply.Notice n) → t ≡ posted_in s x → Said h (by (call.Notice x)) t
   posted_said x n g quiet answers effect =
       quiet_said (call.Notice x) (posted_in s x) refl effect g quiet (record {
         series = nothing_more s.series (listed h) [] k.series refl;
-        notices = ap (λ l. l ++ buffers_of x ∷ []) k.notices ∙ ap (λ (b : Reply). posted h ++ posted_by (call.Notice x) b) (sym answers);
+        notices = ap (λ l. l ++ buffers_of x ∷ []) k.notices ∙ ap (λ (b : Verdict). posted h ++ posted_by (call.Notice x) b) (sym answers);
         orders = orders_stay h s (by (call.Notice x)) k.orders (none_accepted h (by (call.Notice x)) (λ i. omega arith)) (λ j. refl);
         closed = k.closed;
         counted = k.counted;
@@ -303,10 +299,10 @@ module _ (h : List Event) (s : State) (k : Core h s) (a : Reply) (m m' : Levels)
         few = k.few;
       })
 
-  close_said : (p : Phase) (u : ℕ) → is_closed s.phase ≡ false → Guarded h (by (call.Phase bell.Close)) → Quiet m fs m' → a ≡ reply.Phase bell.Close u → t ≡ rung_to s bell.Close p → Said h (by (call.Phase bell.Close)) t
+  close_said : (p : Phase) (u : ℕ) → is_closed s.phase ≡ false → Guarded h (by (call.Phase bell.Close)) → Quiet m fs m' → a ≡ Ok (reply.Phase bell.Close u) → t ≡ rung_to s bell.Close p → Said h (by (call.Phase bell.Close)) t
   close_said p u unclosed g quiet answers effect =
       let found : (n : ℕ) → cancelled_by (call.Phase bell.Close) a s n ≡ ok_units (resting_units (s.order n)) =
-      λ n. ap (λ (b : Reply). cancelled_by (call.Phase bell.Close) b s n) answers ∙ open_while s n unclosed in
+      λ n. ap (λ (b : Verdict). cancelled_by (call.Phase bell.Close) b s n) answers ∙ open_while s n unclosed in
       quiet_said (call.Phase bell.Close) (rung_to s bell.Close p) refl effect g quiet (record {
         series = nothing_more s.series (listed h) [] k.series refl;
         notices = nothing_more s.notices (posted h) [] k.notices refl;
@@ -320,13 +316,13 @@ module _ (h : List Event) (s : State) (k : Core h s) (a : Reply) (m m' : Levels)
         few = omega arith;
       })
 
-  rung_said : (b : Bell) (u : ℕ) (p : Phase) → after s.phase b ≡ Some p → Guarded h (by (call.Phase b)) → Quiet m fs m' → a ≡ reply.Phase b u → t ≡ rung_to s b p → Said h (by (call.Phase b)) t
+  rung_said : (b : Bell) (u : ℕ) (p : Phase) → after s.phase b ≡ Some p → Guarded h (by (call.Phase b)) → Quiet m fs m' → a ≡ Ok (reply.Phase b u) → t ≡ rung_to s b p → Said h (by (call.Phase b)) t
   rung_said bell.Open u p is g quiet answers effect = bell_said bell.Open p (λ n. refl) (MatchOption-at_some (Unit {0}) (λ q. is_closed q ≡ false) p is (opened s.phase)) g quiet effect
   rung_said bell.Halt u p is g quiet answers effect = bell_said bell.Halt p (λ n. refl) (MatchOption-at_some (Unit {0}) (λ q. is_closed q ≡ false) p is (halted s.phase)) g quiet effect
   rung_said bell.Resume u p is g quiet answers effect = bell_said bell.Resume p (λ n. refl) (MatchOption-at_some (Unit {0}) (λ q. is_closed q ≡ false) p is (resumed s.phase)) g quiet effect
   rung_said bell.Close u p is g quiet answers effect = close_said p u (MatchOption-at_some (Unit {0}) (λ q. is_closed s.phase ≡ false) p is (was_open s.phase)) g quiet answers effect
 
-  cancelled_said : (z : ℤ) (u : ℕ) → cancelling s z ≡ Ok u → Guarded h (by (call.Cancel z)) → Quiet m fs m' → a ≡ reply.Cancel u → t ≡ cancelled_in s z → Said h (by (call.Cancel z)) t
+  cancelled_said : (z : ℤ) (u : ℕ) → cancelling s z ≡ Ok u → Guarded h (by (call.Cancel z)) → Quiet m fs m' → a ≡ Ok (reply.Cancel u) → t ≡ cancelled_in s z → Said h (by (call.Cancel z)) t
   cancelled_said (negsuc n) u is g quiet answers effect =
       absurd (err_ok gate.NotResting u (check_ok (not (is_closed s.phase)) gate.Phase (resting_units None) u is).1)
   cancelled_said (pos n) u is g quiet answers effect =
@@ -335,7 +331,7 @@ module _ (h : List Event) (s : State) (k : Core h s) (a : Reply) (m m' : Levels)
       let o : Resting = found.0 in
       let known = k.orders.known n o found.1 in
       let units : (j : ℕ) → cancelled_by (call.Cancel (pos n)) a s j ≡ cond (eqb n j) (Some o.remaining) None =
-      λ j. ap (λ (b : Reply). cancelled_by (call.Cancel (pos n)) b s j) answers ∙ ap (λ v. cond (eqb n j) (Some v) None) found.2 in
+      λ j. ap (λ (b : Verdict). cancelled_by (call.Cancel (pos n)) b s j) answers ∙ ap (λ v. cond (eqb n j) (Some v) None) found.2 in
       quiet_said (call.Cancel (pos n)) (cancelled_in s (pos n)) refl effect g quiet (record {
         series = nothing_more s.series (listed h) [] k.series refl;
         notices = nothing_more s.notices (posted h) [] k.notices refl;
@@ -413,9 +409,9 @@ module _ (h : List Event) (s : State) (k : Core h s) (a : Reply) (m m' : Levels)
       (λ w.
       let number = same_number (record { number = w.0; class = y.class }) (record { number = n; class = c }) (sym w.2.0 ∙ answered) in
       (x o y p.1.1, accepts o y p.1.1 n (ap (λ (z : OrderTerms). z.channel) (same_order o o' asked) ∙ plain) (w.2.0 ∙ ap (λ j. order j y) number)))
-      (λ w. absurd (refused_order w.0 n c (sym w.2.0 ∙ answered)))
+      (λ w. absurd (err_ok w.0 _ (sym w.2.0 ∙ answered)))
       (by_cases (entering s (placed_by s o) y) (λ j. (a ≡ order j y) × (t ≡ entered_in s j (placed_by s o) y)) (λ f. Refusing f s a t) p.1.2))
-      (λ p. absurd (refused_order p.0 n c (sym p.2.0 ∙ answered)))
+      (λ p. absurd (err_ok p.0 _ (sym p.2.0 ∙ answered)))
       (enter_cases s o a t d)
 
   -- the one line of a work
@@ -440,13 +436,13 @@ module _ (h : List Event) (s : State) (k : Core h s) (a : Reply) (m m' : Levels)
       ⊎_elim
       (λ y. listed_said x y.0 g quiet y.2.0 y.2.1)
       (λ y. refused_said (call.Series x) y.0 g quiet y.2)
-      (by_cases (listing s x) (λ n. (a ≡ reply.Series n) × (t ≡ listed_in s x)) (λ f. Refusing f s a t) d)
+      (by_cases (listing s x) (λ n. (a ≡ Ok (reply.Series n)) × (t ≡ listed_in s x)) (λ f. Refusing f s a t) d)
   step_said (call.Notice x) (quiet, d) =
       let g = neither h (by (call.Notice x)) (λ i. omega arith) (λ i. omega arith) in
       ⊎_elim
       (λ y. posted_said x y.0 g quiet y.2.0 y.2.1)
       (λ y. refused_said (call.Notice x) y.0 g quiet y.2)
-      (by_cases (posting s x) (λ n. (a ≡ reply.Notice n) × (t ≡ posted_in s x)) (λ f. Refusing f s a t) d)
+      (by_cases (posting s x) (λ n. (a ≡ Ok (reply.Notice n)) × (t ≡ posted_in s x)) (λ f. Refusing f s a t) d)
   step_said (call.Phase b) (quiet, d) =
       let g = neither h (by (call.Phase b)) (λ i. omega arith) (λ i. omega arith) in
       ⊎_elim
@@ -454,7 +450,7 @@ module _ (h : List Event) (s : State) (k : Core h s) (a : Reply) (m m' : Levels)
       let p = rung_ok (after s.phase b) (units_cancelled s b) y.0 y.1 in
       rung_said b y.0 p.0 p.1 g quiet y.2.0 (y.2.1 ∙ ap (rung_by s b) p.1))
       (λ y. refused_said (call.Phase b) y.0 g quiet y.2)
-      (by_cases (ringing s b) (λ units. (a ≡ reply.Phase b units) × (t ≡ rung_in s b)) (λ f. Refusing f s a t) d)
+      (by_cases (ringing s b) (λ units. (a ≡ Ok (reply.Phase b units)) × (t ≡ rung_in s b)) (λ f. Refusing f s a t) d)
   step_said (call.Enter o) (quiet, d) =
       let g : Guarded h (by (call.Enter o)) = record {
         known = entry_known o (quiet, d);
@@ -475,7 +471,7 @@ module _ (h : List Event) (s : State) (k : Core h s) (a : Reply) (m m' : Levels)
       ⊎_elim
       (λ y. cancelled_said z y.0 y.1 g quiet y.2.0 y.2.1)
       (λ y. refused_said (call.Cancel z) y.0 g quiet y.2)
-      (by_cases (cancelling s z) (λ units. (a ≡ reply.Cancel units) × (t ≡ cancelled_in s z)) (λ f. Refusing f s a t) d)
+      (by_cases (cancelling s z) (λ units. (a ≡ Ok (reply.Cancel units)) × (t ≡ cancelled_in s z)) (λ f. Refusing f s a t) d)
   step_said (call.Work z) d =
       let e : Event = by (call.Work z) in
       let g : Guarded h e = record { known = not_entry h e (λ i. omega arith); limit = not_limit h e (λ i. omega arith); prevention = prevention_held h s k.orders k.notices z a m fs t m' d } in

@@ -4,7 +4,7 @@ use Rattle.std.specs.List.{AllByRecursion}
 use Rattle.market.specs.Levels.{Levels}
 use Rattle.book.specs.Resting.{one, resting_up_to}
 use Rattle.days.specs.declared.call.Call.{Call}
-use Rattle.days.specs.declared.reply.Reply.{Reply}
+use Rattle.days.specs.Verdicts.{Verdict}
 use Rattle.days.specs.State.{State, Line}
 use Rattle.days.specs.History.{Event, Step, New, Leads}
 use Rattle.days.specs.Laws.{EntryKnown, Each, LimitHeld, PreventionHeld, units_on, cancelled, written, Owned, Takes, Laws, Lawful}
@@ -70,5 +70,5 @@ laws h s l =
     }
 
 -- one call more
-pub goes_on : (h : List Event) (s : State) (m : Levels) (c : Call) (a : Reply) (fs : List Line) (t : State) (m' : Levels) → Leads h s → Step s m c a fs t m' → Lawful (as_event c a s m fs m' ∷ h) t
+pub goes_on : (h : List Event) (s : State) (m : Levels) (c : Call) (a : Verdict) (fs : List Line) (t : State) (m' : Levels) → Leads h s → Step s m c a fs t m' → Lawful (as_event c a s m fs m' ∷ h) t
 goes_on h s m c a fs t m' l d = record { leads = (l, d); laws = laws (as_event c a s m fs m' ∷ h) t (l, d) }

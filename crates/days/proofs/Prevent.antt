@@ -25,7 +25,7 @@ use Rattle.fills.specs.FillingLaws.{ReachesNet}
 use Rattle.fills.proofs.Quotes.{banded}
 use Rattle.fills.proofs.Fillings.{at_net, filled}
 use Rattle.days.specs.declared.call.Call.TheVariants as call
-use Rattle.days.specs.declared.reply.Reply.{Reply}
+use Rattle.days.specs.Verdicts.{Verdict}
 use Rattle.days.specs.State.{State, Line, in_force}
 use Rattle.days.specs.Works.{terms_in, line_for, matched, working}
 use Rattle.days.specs.History.{Event, worked, Refusing, Quiet, Works, Step}
@@ -33,17 +33,17 @@ use Rattle.days.specs.Laws.{drawn, Draws, Reaches, posted, Entry, Accepted, legs
 use Rattle.orders.proofs.Checked.{by_cases, err_ok, same_ok}
 use Rattle.days.proofs.Fills.{Low, quoted_cases, work_cases}
 use Rattle.days.proofs.Orders.{resting_as, Known, Orders}
-use Rattle.days.proofs.Protect.{as_event, drawn_by, no_band, exact_trans, none_number}
+use Rattle.days.proofs.Protect.{as_event, no_band, exact_trans, none_number}
 
 taking_is : (m : Levels) (legs : List TradedLeg) (side : Side) → taking side (net_market m legs) ≡ net_side m legs (taken_side side)
 taking_is m legs Buy = refl
 taking_is m legs Sell = refl
 
-map-drawn : {A B : Type 0} (g : A → B) (r : Result A GateFault) → drawn_by (map_ok g r) ≡ drawn_by r
+map-drawn : {A B : Type 0} (g : A → B) (r : Result A GateFault) → drawn (map_ok g r) ≡ drawn r
 map-drawn g (Ok x) = refl
 map-drawn g (Err f) = refl
 
-exact_34 : {A : Type 0} (p : Bool) (x : A) → Exactly (p ≡ true) (drawn_by (check (not p) gate.Prevented (Ok x)) ≡ Some 34)
+exact_34 : {A : Type 0} (p : Bool) (x : A) → Exactly (p ≡ true) (drawn (check (not p) gate.Prevented (Ok x)) ≡ Some 34)
 exact_34 true x = (λ e. refl, λ e. refl)
 exact_34 false x = (λ e. absurd (let z : ◌≡◌ {A = ℕ} 0 1 = cc in omega arith), λ e. absurd (none_number 34 e))
 
@@ -61,7 +61,7 @@ same_work : (z w : ℤ) → call.Work z ≡ call.Work w → z ≡ w
 same_work z w e = cc
 
 module _ (h : List Event) (s : State) (k : Orders h s.last s.order s.tape) (notices : s.notices ≡ posted h) (n : ℕ) (x : Entry) (accepted : Accepted h n x)
-    (z : ℤ) (a : Reply) (m : Levels) (fs : List Line) (t : State) (m' : Levels) (d : Step s m (call.Work (pos n)) a fs t m') (unless : Reaches 34 a) where
+    (z : ℤ) (a : Verdict) (m : Levels) (fs : List Line) (t : State) (m' : Levels) (d : Step s m (call.Work (pos n)) a fs t m') (unless : Reaches 34 a) where
   abbrev e : Event
   e = as_event (call.Work z) a s m fs m'
 
@@ -71,16 +71,16 @@ module _ (h : List Event) (s : State) (k : Orders h s.last s.order s.tape) (noti
   answered : ((f : Line) × (working s m (pos n) ≡ Ok f) × Works s m f a fs t m') ⊎ ((f : GateFault) × (working s m (pos n) ≡ Err f) × (Quiet m fs m' × Refusing f s a t))
   answered = by_cases (working s m (pos n)) (λ f. Works s m f a fs t m') (λ f. Quiet m fs m' × Refusing f s a t) d
 
-  drawn_is : drawn a ≡ drawn_by (working s m (pos n))
+  drawn_is : drawn a ≡ drawn (working s m (pos n))
   drawn_is =
       ⊎_elim
-      (λ w. ap drawn w.2.0 ∙ sym (ap drawn_by w.1))
-      (λ w. ap drawn w.2.1.0 ∙ sym (ap drawn_by w.1))
+      (λ w. ap drawn w.2.0 ∙ sym (ap drawn w.1))
+      (λ w. ap drawn w.2.1.0 ∙ sym (ap drawn w.1))
       answered
 
-  not_low : {A : Type 0} (r : Result A GateFault) → drawn a ≡ drawn_by r → Low r → ⊥
+  not_low : {A : Type 0} (r : Result A GateFault) → drawn a ≡ drawn r → Low r → ⊥
   not_low r is l =
-      let high : 34 ≤ number_of l.0 = subst (λ v. IfSome v (λ j. 34 ≤ j)) (is ∙ ap drawn_by l.1) unless in
+      let high : 34 ≤ number_of l.0 = subst (λ v. IfSome v (λ j. 34 ≤ j)) (is ∙ ap drawn l.1) unless in
       let low = l.2 in
       omega arith
 
@@ -105,8 +105,8 @@ module _ (h : List Event) (s : State) (k : Orders h s.last s.order s.tape) (noti
     comes_to : working s m (pos n) ≡ map_ok (line_for own (length s.notices)) quote
     comes_to = comes ∙ ap (matched s m) (subst (λ y. o ≡ resting_as n y o.remaining) same known.is)
 
-    drawn_from : drawn a ≡ drawn_by quote
-    drawn_from = drawn_is ∙ ap drawn_by comes_to ∙ map-drawn (line_for own (length s.notices)) quote
+    drawn_from : drawn a ≡ drawn quote
+    drawn_from = drawn_is ∙ ap drawn comes_to ∙ map-drawn (line_for own (length s.notices)) quote
 
     module _ (net : ℤ) (reached : ReachesNet m (terms_in own) net) where
       abbrev stops : Bool
@@ -122,7 +122,7 @@ module _ (h : List Event) (s : State) (k : Orders h s.last s.order s.tape) (noti
       last = at_net m (terms_in own) o.remaining bs net reached
 
       said : Exactly (stops ≡ true) (Draws 34 a)
-      said = subst (λ v. Exactly (stops ≡ true) (v ≡ Some 34)) (sym (drawn_from ∙ ap drawn_by last)) (exact_34 stops fill)
+      said = subst (λ v. Exactly (stops ≡ true) (v ≡ Some 34)) (sym (drawn_from ∙ ap drawn last)) (exact_34 stops fill)
 
       fills_if : stops ≡ false → Filled n net e
       fills_if free =
@@ -170,6 +170,6 @@ module _ (h : List Event) (s : State) (k : Orders h s.last s.order s.tape) (noti
       (λ r. of_order_lem r.0 r.1 r.2)
       (work_cases s m (pos n)))
 
-pub prevention_held : (h : List Event) (s : State) → Orders h s.last s.order s.tape → s.notices ≡ posted h → (z : ℤ) (a : Reply) (m : Levels) (fs : List Line) (t : State) (m' : Levels) → Step s m (call.Work z) a fs t m' → PreventionHeld h (as_event (call.Work z) a s m fs m')
+pub prevention_held : (h : List Event) (s : State) → Orders h s.last s.order s.tape → s.notices ≡ posted h → (z : ℤ) (a : Verdict) (m : Levels) (fs : List Line) (t : State) (m' : Levels) → Step s m (call.Work z) a fs t m' → PreventionHeld h (as_event (call.Work z) a s m fs m')
 prevention_held h s k notices z a m fs t m' d n x asked accepted =
     of_work h s k notices n x accepted z a m fs t m' (subst (λ w. Step s m (call.Work w) a fs t m') (same_work z (pos n) asked) d)

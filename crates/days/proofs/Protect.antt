@@ -25,8 +25,7 @@ use Rattle.orders.specs.TurnedTerms.{turned_limit, turned_terms}
 use Rattle.fills.proofs.Quotes.{banded}
 use Rattle.days.specs.declared.call.Call.{Call}
 use Rattle.days.specs.declared.call.Call.TheVariants as call
-use Rattle.days.specs.declared.reply.Reply.{Reply}
-use Rattle.days.specs.declared.reply.Reply.TheVariants as reply
+use Rattle.days.specs.Verdicts.{Verdict}
 use Rattle.days.specs.Verdicts.{check_fault}
 use Rattle.days.specs.State.{State, Line, in_force}
 use Rattle.days.specs.Entries.{Placed, placed_as, placed, entered_as, options_of, limit_verdict, price_fault, numbering, entering, entered_in}
@@ -36,7 +35,7 @@ use Rattle.orders.proofs.Checked.{by_cases, check_all, none_refused, same_some}
 use Rattle.days.proofs.Checked.{Passed, passed, early_number}
 
 -- a call with its answer, the gate before it, the market before and after, and the lines that it wrote
-abbrev pub as_event : Call → Reply → State → Levels → List Line → Levels → Event
+abbrev pub as_event : Call → Verdict → State → Levels → List Line → Levels → Event
 as_event c a s m fs m' = record { call = c; reply = a; before = s; market = m; left = m'; fills = fs }
 
 -- an order past the checks that need no price
@@ -67,18 +66,13 @@ law_of options y side price bs (inr o) = no_band y.class o.class_is bs _
 
 -- Numbers
 
--- the number of a refusal
-abbrev pub drawn_by : {A : Type 0} → Result A GateFault → Option ℕ
-drawn_by (Ok x) = None
-drawn_by (Err f) = Some (number_of f)
-
 pub none_number : (n : ℕ) → ◌≡◌ {A = Option ℕ} None (Some n) → ⊥
 none_number n e = let z : ◌≡◌ {A = ℕ} 0 1 = cc in omega arith
 
 -- a price's refusal is the answer's number, where what comes after has higher ones
-module _ (n : Result ℕ GateFault) (late : (k : ℕ) → drawn_by n ≡ Some k → 28 ≤ k) where
+module _ (n : Result ℕ GateFault) (late : (k : ℕ) → drawn n ≡ Some k → 28 ≤ k) where
   abbrev after : Option Refusal → Option ℕ
-  after r = drawn_by (check_fault (price_fault r Plain) n)
+  after r = drawn (check_fault (price_fault r Plain) n)
 
   exact_26 : (r : Option Refusal) → Exactly (r ≡ Some refusal.BelowMinimum) (after r ≡ Some 26)
   exact_26 None = (λ e. absurd (let z : ◌≡◌ {A = ℕ} 0 1 = cc in omega arith), λ e. absurd (omega (arith, late 26 e)))
@@ -99,27 +93,27 @@ late_number s =
     check_all P (not (leb 50000 s.last)) gate.NumbersUsedUp _ (lit≤ tt) (
     none_refused P (s.last + 1)))
 
-late_drawn : (r : Result ℕ GateFault) → ((f : GateFault) → r ≡ Err f → 28 ≤ number_of f) → (k : ℕ) → drawn_by r ≡ Some k → 28 ≤ k
+late_drawn : (r : Result ℕ GateFault) → ((f : GateFault) → r ≡ Err f → 28 ≤ number_of f) → (k : ℕ) → drawn r ≡ Some k → 28 ≤ k
 late_drawn (Ok n) h k e = absurd (none_number k e)
 late_drawn (Err f) h k e = subst (λ j. 28 ≤ j) (same_some (number_of f) k e) (h f refl)
 
 -- how the answer to an order past the first checks is drawn
-entered_drawn : (s : State) (p : Placed) (y : Strategy) (a : Reply) (t : State) → Enters s p y a t → drawn a ≡ drawn_by (entering s p y)
+entered_drawn : (s : State) (p : Placed) (y : Strategy) (a : Verdict) (t : State) → Enters s p y a t → drawn a ≡ drawn (entering s p y)
 entered_drawn s p y a t d =
     ⊎_elim
-    (λ z. ap drawn z.2.0 ∙ sym (ap drawn_by z.1))
-    (λ z. ap drawn z.2.0 ∙ sym (ap drawn_by z.1))
+    (λ z. ap drawn z.2.0 ∙ sym (ap drawn z.1))
+    (λ z. ap drawn z.2.0 ∙ sym (ap drawn z.1))
     (by_cases (entering s p y) (λ n. (a ≡ order n y) × (t ≡ entered_in s n p y)) (λ f. Refusing f s a t) d)
 
 -- Limits
 
-abbrev LimitSaid : List Leg → Strategy → ℤ → Reply → Buffer → Type 0
+abbrev LimitSaid : List Leg → Strategy → ℤ → Verdict → Buffer → Type 0
 LimitSaid options y limit a b =
     (Reaches 26 a → Exactly (Draws 26 a) (AllAbove (turned_legs y.turned options) (turned_price y.turned limit) b.minimum))
     × (Reaches 27 a → Exactly (Draws 27 a) (AllBelow (turned_legs y.turned options) (turned_price y.turned limit) (maximum_buffer b y.width)))
 
 -- an answer that fails an earlier check
-refused_early : (options : List Leg) (y : Strategy) (limit : ℤ) (a : Reply) (bs : Buffers) (f : GateFault) → a ≡ reply.Refused f → number_of f < 25 → ForBanded y.class bs (LimitSaid options y limit a)
+refused_early : (options : List Leg) (y : Strategy) (limit : ℤ) (a : Verdict) (bs : Buffers) (f : GateFault) → a ≡ Err f → number_of f < 25 → ForBanded y.class bs (LimitSaid options y limit a)
 refused_early options y limit a bs f is low =
     banded_all y.class bs (LimitSaid options y limit a) (λ b. (
       λ r. absurd (let z : 26 ≤ number_of f = subst (Reaches 26) is r in omega arith),
@@ -127,7 +121,7 @@ refused_early options y limit a bs f is low =
     ))
 
 -- an answer drawn from the price
-priced_answer : (s : State) (o : OrderTerms) (limit : ℤ) (y : Strategy) (a : Reply) (t : State) → o.channel ≡ Plain → o.limit ≡ Some limit
+priced_answer : (s : State) (o : OrderTerms) (limit : ℤ) (y : Strategy) (a : Verdict) (t : State) → o.channel ≡ Plain → o.limit ≡ Some limit
     → Classified (options_of s.series o) y → Enters s (placed_by s o) y a t → ForBanded y.class (in_force s.notices) (LimitSaid (options_of s.series o) y limit a)
 priced_answer s o limit y a t plain is k d =
     let options : List Leg = options_of s.series o in
@@ -139,7 +133,7 @@ priced_answer s o limit y a t plain is k d =
     let verdict : Option ℤ → Option Refusal = λ (l : Option ℤ). limit_verdict (turned_limit y.turned l) options (turned_terms y (entered_as o)) bs in
     let said : drawn a ≡ after (numbering s Plain) late r =
     entered_drawn s (placed_by s o) y a t d
-    ∙ ap (λ (c : Channel). drawn_by (check_fault (price_fault (verdict o.limit) c) (numbering s c))) plain
+    ∙ ap (λ (c : Channel). drawn (check_fault (price_fault (verdict o.limit) c) (numbering s c))) plain
     ∙ ap (λ (l : Option ℤ). after (numbering s Plain) late (verdict l)) is in
     banded y.class bs
     (λ b. Exactly (r ≡ Some refusal.BelowMinimum) (AllAbove (turned_legs y.turned options) price b.minimum) × Exactly (r ≡ Some refusal.AboveMaximum) (AllBelow (turned_legs y.turned options) price (maximum_buffer b y.width)))
@@ -156,11 +150,11 @@ pub same_order : (o o' : OrderTerms) → call.Enter o ≡ call.Enter o' → o �
 same_order o o' e = cc
 
 -- how an order is entered: past the first checks, its legs are of a strategy
-abbrev pub Entering : State → Reply → State → Placed → Type 0
+abbrev pub Entering : State → Verdict → State → Placed → Type 0
 Entering s a t p = (y : Strategy) × Classified p.options y × Enters s p y a t
 
 -- what enter says of an order: by its strategy, or refused early
-pub enter_cases : (s : State) (o : OrderTerms) (a : Reply) (t : State) → EnterStep s o a t
+pub enter_cases : (s : State) (o : OrderTerms) (a : Verdict) (t : State) → EnterStep s o a t
     → (Passed s o (placed_by s o) × Entering s a t (placed_by s o)) ⊎ ((f : GateFault) × (number_of f < 25) × Refusing f s a t)
 enter_cases s o a t d =
     ⊎_elim
@@ -170,12 +164,12 @@ enter_cases s o a t d =
 
 module _ (h : List Event) (s : State) (series : s.series ≡ listed h) (notices : s.notices ≡ posted h) where
   -- of one order
-  abbrev HeldFor : Reply → OrderTerms → Type 0
+  abbrev HeldFor : Verdict → OrderTerms → Type 0
   HeldFor a o =
       (limit : ℤ) (y : Strategy) → o.channel ≡ Plain → o.limit ≡ Some limit → Classified (options_of (listed h) o) y →
       ForBanded y.class (in_force (posted h)) (LimitSaid (options_of (listed h) o) y limit a)
 
-  held_for : (o : OrderTerms) (a : Reply) (t : State) → EnterStep s o a t → HeldFor a o
+  held_for : (o : OrderTerms) (a : Verdict) (t : State) → EnterStep s o a t → HeldFor a o
   held_for o a t d limit y plain is k =
       ⊎_elim
       (λ z.
@@ -188,5 +182,5 @@ module _ (h : List Event) (s : State) (series : s.series ≡ listed h) (notices 
       (λ z. refused_early (options_of (listed h) o) y limit a (in_force (posted h)) z.0 z.2.0 z.1)
       (enter_cases s o a t d)
 
-  pub limit_held : (o : OrderTerms) (a : Reply) (m : Levels) (fs : List Line) (t : State) (m' : Levels) → Step s m (call.Enter o) a fs t m' → LimitHeld h (as_event (call.Enter o) a s m fs m')
+  pub limit_held : (o : OrderTerms) (a : Verdict) (m : Levels) (fs : List Line) (t : State) (m' : Levels) → Step s m (call.Enter o) a fs t m' → LimitHeld h (as_event (call.Enter o) a s m fs m')
   limit_held o a m fs t m' (quiet, d) o' limit y asked = subst (HeldFor a) (same_order o o' asked) (held_for o a t d) limit y

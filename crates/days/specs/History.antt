@@ -11,8 +11,8 @@ use Rattle.orders.specs.declared.records.OrderTerms.{OrderTerms}
 use Rattle.orders.specs.Checks.{check}
 use Rattle.days.specs.declared.call.Call.{Call}
 use Rattle.days.specs.declared.call.Call.TheVariants as call
-use Rattle.days.specs.declared.reply.Reply.{Reply}
 use Rattle.days.specs.declared.reply.Reply.TheVariants as reply
+use Rattle.days.specs.Verdicts.{Verdict}
 use Rattle.days.specs.State.{State, Line}
 use Rattle.days.specs.Listings.{listing, listed_in, posting, posted_in}
 use Rattle.days.specs.Cancels.{cancelling, cancelled_in, ringing, rung_in}
@@ -23,7 +23,7 @@ use Rattle.days.specs.Works.{is_open, working, filled_in, filled_from, Sweeps, E
 -- that it wrote at the end of the tape. Between two calls the market may become any other.
 pub record Event : Type 0 where
   pub call : Call
-  pub reply : Reply
+  pub reply : Verdict
   pub before : State
   pub market : Levels
   pub left : Levels
@@ -34,40 +34,37 @@ abbrev pub since : State → State → List Line
 since s t = drop (length s.tape) t.tape
 
 -- a call that led from the gate s and the market m to t and m'
-abbrev pub event : Call → Reply → State → Levels → State → Levels → Event
+abbrev pub event : Call → Verdict → State → Levels → State → Levels → Event
 event c a s m t m' = record { call = c; reply = a; before = s; market = m; left = m'; fills = since s t }
 
--- what a call answers, as a reply
-abbrev pub replied : {A : Type 0} → (A → Reply) → Result A GateFault → Reply
-replied f (Ok x) = f x
-replied f (Err fault) = reply.Refused fault
+-- what enter, work and sweep answer
 
-abbrev pub order : ℕ → Strategy → Reply
-order n y = reply.Order (record { number = n; class = y.class })
+abbrev pub order : ℕ → Strategy → Verdict
+order n y = Ok (reply.Order (record { number = n; class = y.class }))
 
-abbrev pub worked : Line → Reply
-worked f = reply.Work (record { units = f.units; net = f.net })
+abbrev pub worked : Line → Verdict
+worked f = Ok (reply.Work (record { units = f.units; net = f.net }))
 
-abbrev pub swept : List Line → Outcome → Reply
-swept fs end = reply.Sweep (record { lines = length fs; units = volume fs; outcome = end })
+abbrev pub swept : List Line → Outcome → Verdict
+swept fs end = Ok (reply.Sweep (record { lines = length fs; units = volume fs; outcome = end }))
 
 -- a refusal changes nothing
-abbrev pub Refusing : GateFault → State → Reply → State → Type 0
-Refusing f s a t = (a ≡ reply.Refused f) × (t ≡ s)
+abbrev pub Refusing : GateFault → State → Verdict → State → Type 0
+Refusing f s a t = (a ≡ Err f) × (t ≡ s)
 
 -- the call writes no line and takes nothing
 abbrev pub Quiet : Levels → List Line → Levels → Type 0
 Quiet m fs m' = (fs ≡ []) × (m' ≡ m)
 
 -- an order past the checks that need no price, whose legs are of the strategy y
-abbrev pub Enters : State → Placed → Strategy → Reply → State → Type 0
+abbrev pub Enters : State → Placed → Strategy → Verdict → State → Type 0
 Enters s p y a t = MatchResult (entering s p y) (λ n. (a ≡ order n y) × (t ≡ entered_in s n p y)) (λ f. Refusing f s a t)
 
 -- work writes one line
-abbrev pub Works : State → Levels → Line → Reply → List Line → State → Levels → Type 0
+abbrev pub Works : State → Levels → Line → Verdict → List Line → State → Levels → Type 0
 Works s m f a fs t m' = (a ≡ worked f) × (fs ≡ f ∷ []) × (t ≡ filled_in s f) × (m' ≡ filled_from s m f)
 
-abbrev pub Swept : State → Levels → Reply → List Line → State → Levels → Type 0
+abbrev pub Swept : State → Levels → Verdict → List Line → State → Levels → Type 0
 Swept s m a fs t m' = (end : Outcome) × (a ≡ swept fs end) × Sweeps s m fs t m' × Ended end t m'
 
 abbrev pub sweeping : State → Result (Unit {0}) GateFault
@@ -75,22 +72,22 @@ sweeping s = check (is_open s.phase) gate.Phase (Ok tt)
 
 -- How enter, work and sweep answer, and what they leave.
 
-abbrev pub EnterStep : State → OrderTerms → Reply → State → Type 0
+abbrev pub EnterStep : State → OrderTerms → Verdict → State → Type 0
 EnterStep s o a t = MatchResult (placed s o) (λ p. (y : Strategy) × Classified p.options y × Enters s p y a t) (λ f. Refusing f s a t)
 
-abbrev pub WorkStep : State → Levels → ℤ → Reply → List Line → State → Levels → Type 0
+abbrev pub WorkStep : State → Levels → ℤ → Verdict → List Line → State → Levels → Type 0
 WorkStep s m n a fs t m' = MatchResult (working s m n) (λ f. Works s m f a fs t m') (λ f. Quiet m fs m' × Refusing f s a t)
 
-abbrev pub SweepStep : State → Levels → Reply → List Line → State → Levels → Type 0
+abbrev pub SweepStep : State → Levels → Verdict → List Line → State → Levels → Type 0
 SweepStep s m a fs t m' = MatchResult (sweeping s) (λ _. Swept s m a fs t m') (λ f. Quiet m fs m' × Refusing f s a t)
 
 -- How each call answers, and what it leaves.
-abbrev pub Step : State → Levels → Call → Reply → List Line → State → Levels → Type 0
-Step s m (call.Series x) a fs t m' = Quiet m fs m' × MatchResult (listing s x) (λ n. (a ≡ reply.Series n) × (t ≡ listed_in s x)) (λ f. Refusing f s a t)
-Step s m (call.Notice x) a fs t m' = Quiet m fs m' × MatchResult (posting s x) (λ n. (a ≡ reply.Notice n) × (t ≡ posted_in s x)) (λ f. Refusing f s a t)
-Step s m (call.Phase b) a fs t m' = Quiet m fs m' × MatchResult (ringing s b) (λ units. (a ≡ reply.Phase b units) × (t ≡ rung_in s b)) (λ f. Refusing f s a t)
+abbrev pub Step : State → Levels → Call → Verdict → List Line → State → Levels → Type 0
+Step s m (call.Series x) a fs t m' = Quiet m fs m' × MatchResult (listing s x) (λ n. (a ≡ Ok (reply.Series n)) × (t ≡ listed_in s x)) (λ f. Refusing f s a t)
+Step s m (call.Notice x) a fs t m' = Quiet m fs m' × MatchResult (posting s x) (λ n. (a ≡ Ok (reply.Notice n)) × (t ≡ posted_in s x)) (λ f. Refusing f s a t)
+Step s m (call.Phase b) a fs t m' = Quiet m fs m' × MatchResult (ringing s b) (λ units. (a ≡ Ok (reply.Phase b units)) × (t ≡ rung_in s b)) (λ f. Refusing f s a t)
 Step s m (call.Enter o) a fs t m' = Quiet m fs m' × EnterStep s o a t
-Step s m (call.Cancel n) a fs t m' = Quiet m fs m' × MatchResult (cancelling s n) (λ units. (a ≡ reply.Cancel units) × (t ≡ cancelled_in s n)) (λ f. Refusing f s a t)
+Step s m (call.Cancel n) a fs t m' = Quiet m fs m' × MatchResult (cancelling s n) (λ units. (a ≡ Ok (reply.Cancel units)) × (t ≡ cancelled_in s n)) (λ f. Refusing f s a t)
 Step s m (call.Work n) a fs t m' = WorkStep s m n a fs t m'
 Step s m call.Sweep a fs t m' = SweepStep s m a fs t m'
 

@@ -1,5 +1,5 @@
 -- The laws that every day keeps, in words of its calls, answers, markets and tape.
-use Rattle.std.specs.Prelude.{◌≡◌, ℕ, suc, ◌+◌, ◌*◌, ◌<◌, ◌≤◌, Bool, cond, ◌⊎◌, List, [], ◌∷◌, ◌++◌, map, length, ℤ, pos, negsuc, ◌+ℤ◌, neg_ℤ, ◌≤ℤ◌, IfSome, Some, None, Option, ◌==◌, unsigned_abs}
+use Rattle.std.specs.Prelude.{◌≡◌, ℕ, suc, ◌+◌, ◌*◌, ◌<◌, ◌≤◌, Bool, cond, ◌⊎◌, List, [], ◌∷◌, ◌++◌, map, length, ℤ, pos, negsuc, ◌+ℤ◌, neg_ℤ, ◌≤ℤ◌, IfSome, Some, None, Ok, Err, Option, Result, ◌==◌, unsigned_abs}
 use Rattle.std.specs.List.{AllByRecursion}
 use Rattle.strategy.specs.declared.leg.Side.{Side}
 use Rattle.strategy.specs.declared.leg.Side.TheVariants.{Buy, Sell}
@@ -21,6 +21,7 @@ use Rattle.market.specs.Levels.{Levels, taken_at}
 use Rattle.market.specs.Net.{net_market}
 use Rattle.orders.specs.declared.bell.Bell.{Bell}
 use Rattle.orders.specs.declared.bell.Bell.TheVariants as bell
+use Rattle.orders.specs.declared.fault.GateFault.{GateFault}
 use Rattle.orders.specs.declared.records.OrderTerms.{OrderTerms}
 use Rattle.orders.specs.declared.records.Channel.TheVariants.{Plain}
 use Rattle.orders.specs.Checks.{amount}
@@ -32,8 +33,8 @@ use Rattle.book.specs.Resting.{resting_up_to}
 use Rattle.fills.specs.declared.fill.LegFill.{LegFill}
 use Rattle.days.specs.declared.call.Call.{Call}
 use Rattle.days.specs.declared.call.Call.TheVariants as call
-use Rattle.days.specs.declared.reply.Reply.{Reply}
 use Rattle.days.specs.declared.reply.Reply.TheVariants as reply
+use Rattle.days.specs.Verdicts.{Verdict}
 use Rattle.days.specs.State.{State, Line, in_force}
 use Rattle.days.specs.Cancels.{open_at, open_units}
 use Rattle.days.specs.Entries.{entered_legs, options_of}
@@ -42,22 +43,16 @@ use Rattle.days.specs.History.{Event, since, event, order, worked, Step, Leads}
 -- Answers
 
 -- the number of a refusal
-abbrev pub drawn : Reply → Option ℕ
-drawn (reply.Series n) = None
-drawn (reply.Notice n) = None
-drawn (reply.Phase b units) = None
-drawn (reply.Order x) = None
-drawn (reply.Cancel units) = None
-drawn (reply.Work x) = None
-drawn (reply.Sweep x) = None
-drawn (reply.Refused f) = Some (number_of f)
+abbrev pub drawn : {A : Type 0} → Result A GateFault → Option ℕ
+drawn (Ok x) = None
+drawn (Err f) = Some (number_of f)
 
 -- the answer is the refusal n
-abbrev pub Draws : ℕ → Reply → Type 0
+abbrev pub Draws : ℕ → Verdict → Type 0
 Draws n a = drawn a ≡ Some n
 
 -- the answer is no refusal with a lower number than n
-abbrev pub Reaches : ℕ → Reply → Type 0
+abbrev pub Reaches : ℕ → Verdict → Type 0
 Reaches n a = IfSome (drawn a) (λ k. n ≤ k)
 
 -- what an answer that is no refusal accepts
@@ -67,7 +62,7 @@ if_accepted (Some n) x = []
 
 -- What the calls so far have set up
 
-abbrev pub listed_by : Call → Reply → List Series
+abbrev pub listed_by : Call → Verdict → List Series
 listed_by (call.Series t) a = if_accepted (drawn a) (series_of t)
 listed_by (call.Notice t) a = []
 listed_by (call.Phase b) a = []
@@ -81,7 +76,7 @@ abbrev pub listed : List Event → List Series
 listed [] = []
 listed (e ∷ h) = listed h ++ listed_by e.call e.reply
 
-abbrev pub posted_by : Call → Reply → List Buffers
+abbrev pub posted_by : Call → Verdict → List Buffers
 posted_by (call.Series t) a = []
 posted_by (call.Notice t) a = if_accepted (drawn a) (buffers_of t)
 posted_by (call.Phase b) a = []
@@ -131,7 +126,7 @@ Accepted (e ∷ h) n x = Accepts h e n x ⊎ Accepted h n x
 abbrev pub EntryKnown : List Event → Event → Type 0
 EntryKnown h e =
     (o : OrderTerms) (n : ℕ) (c : Class) →
-    e.call ≡ call.Enter o → o.channel ≡ Plain → e.reply ≡ reply.Order (record { number = n; class = c }) → (x : Entry) × Accepts h e n x
+    e.call ≡ call.Enter o → o.channel ≡ Plain → e.reply ≡ Ok (reply.Order (record { number = n; class = c })) → (x : Entry) × Accepts h e n x
 
 -- what holds of every call, with the calls before it
 abbrev pub Each : (List Event → Event → Type 0) → List Event → Type 0
@@ -187,15 +182,15 @@ abbrev pub units_on : List Line → ℕ → ℕ
 units_on [] n = 0
 units_on (f ∷ fs) n = cond (f.number == n) f.units 0 + units_on fs n
 
-abbrev pub cancel_answer : Reply → Option ℕ
-cancel_answer (reply.Series n) = None
-cancel_answer (reply.Notice n) = None
-cancel_answer (reply.Phase b units) = None
-cancel_answer (reply.Order x) = None
-cancel_answer (reply.Cancel units) = Some units
-cancel_answer (reply.Work x) = None
-cancel_answer (reply.Sweep x) = None
-cancel_answer (reply.Refused f) = None
+abbrev pub cancel_answer : Verdict → Option ℕ
+cancel_answer (Ok (reply.Series n)) = None
+cancel_answer (Ok (reply.Notice n)) = None
+cancel_answer (Ok (reply.Phase b units)) = None
+cancel_answer (Ok (reply.Order x)) = None
+cancel_answer (Ok (reply.Cancel units)) = Some units
+cancel_answer (Ok (reply.Work x)) = None
+cancel_answer (Ok (reply.Sweep x)) = None
+cancel_answer (Err f) = None
 
 abbrev pub of_order : ℤ → ℕ → Option ℕ → Option ℕ
 of_order (pos k) n u = cond (k == n) u None
@@ -210,7 +205,7 @@ closed_units bell.Close None found = found
 closed_units bell.Close (Some number) found = None
 
 -- the units that one call cancelled of the order n
-abbrev pub cancelled_by : Call → Reply → State → ℕ → Option ℕ
+abbrev pub cancelled_by : Call → Verdict → State → ℕ → Option ℕ
 cancelled_by (call.Series t) a s n = None
 cancelled_by (call.Notice t) a s n = None
 cancelled_by (call.Phase b) a s n = closed_units b (drawn a) (open_at s n)
@@ -323,6 +318,6 @@ pub record Lawful (h : List Event) (s : State) : Type 0 where
 
 -- The law of the day, of one call that meets the gate s and the market m, answers a, and leaves t and m': it answers and leaves just what is
 -- defined, and whatever calls, over whatever markets, led a new gate to s, this call leads on to t, and the whole day keeps the laws.
-pub record LeadsOn (c : Call) (a : Reply) (s : State) (m : Levels) (t : State) (m' : Levels) : Type 0 where
+pub record LeadsOn (c : Call) (a : Verdict) (s : State) (m : Levels) (t : State) (m' : Levels) : Type 0 where
   pub step : Step s m c a (since s t) t m'
   pub keeps : (h : List Event) → Leads h s → Lawful (event c a s m t m' ∷ h) t

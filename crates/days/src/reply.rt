@@ -1,6 +1,5 @@
 // What the gate answers.
 use orders::bell::Bell;
-use orders::fault::GateFault;
 use orders::outcome::Outcome;
 use strategy::class::Class;
 
@@ -26,6 +25,7 @@ pub struct Tally {
     pub outcome: Outcome,
 }
 
+// What a call answers that is not refused.
 #[derive(Clone, Copy)]
 pub enum Reply {
     // the number of the series
@@ -39,5 +39,4 @@ pub enum Reply {
     Cancel(u16),
     Work(Execution),
     Sweep(Tally),
-    Refused(GateFault),
 }

@@ -22,12 +22,13 @@ use Rattle.fills.specs.Fillings.{filling_of}
 use Rattle.days.specs.declared.call.Call.{Call}
 use Rattle.days.specs.declared.reply.Reply.{Reply}
 use Rattle.days.specs.declared.reply.Reply.TheVariants as reply
+use Rattle.days.specs.Verdicts.{Verdict}
 use Rattle.days.specs.declared.reply.Tally.{Tally}
 use Rattle.days.specs.State.{State, Line, tape_full, lookup}
 use Rattle.days.specs.Works.{is_open, line_for, matched, when_resting, working, Sweeps, volume}
 use Rattle.days.specs.Cancels.{rung_by, rung_in}
 use Rattle.days.specs.Entries.{placed, kept_in, entering, entered_in}
-use Rattle.days.specs.History.{since, replied, order, worked, Refusing, Quiet, Enters, Works, Swept, EnterStep, WorkStep, SweepStep, Step}
+use Rattle.days.specs.History.{since, order, worked, Refusing, Quiet, Enters, Works, Swept, EnterStep, WorkStep, SweepStep, Step}
 use Rattle.days.specs.Laws.{LeadsOn}
 use Rattle.orders.proofs.Checked.{by_cases}
 use Rattle.days.proofs.Days.{goes_on}
@@ -43,12 +44,12 @@ since_is s t fs is = ap (drop (length s.tape)) is ∙ drop_at s.tape fs (length 
 
 -- A call whose step is known leads on
 
-pub leads_on : (c : Call) (a : Reply) (s : State) (m : Levels) (t : State) (m' : Levels) → Step s m c a (since s t) t m' → LeadsOn c a s m t m'
+pub leads_on : (c : Call) (a : Verdict) (s : State) (m : Levels) (t : State) (m' : Levels) → Step s m c a (since s t) t m' → LeadsOn c a s m t m'
 leads_on c a s m t m' step = record { step = step; keeps = λ h before. goes_on h s m c a (since s t) t m' before step }
 
--- the same call under another name
-pub as_asked : (c d : Call) (a : Reply) (s : State) (m : Levels) (t : State) (m' : Levels) → d ≡ c → LeadsOn c a s m t m' → LeadsOn d a s m t m'
-as_asked c d a s m t m' same h = subst (λ x. LeadsOn x a s m t m') (sym same) h
+-- the same call and answer under other names
+pub as_asked : (c d : Call) (a b : Verdict) (s : State) (m : Levels) (t : State) (m' : Levels) → d ≡ c → b ≡ a → LeadsOn c a s m t m' → LeadsOn d b s m t m'
+as_asked c d a b s m t m' same is h = subst (λ x. LeadsOn x b s m t m') (sym same) (subst (λ x. LeadsOn c x s m t m') (sym is) h)
 
 -- Calls that write no line
 
@@ -57,14 +58,14 @@ module _ {A : Type 0} (v r : Result A GateFault) (f : A → Reply) (s t u : Stat
   same_tape (Ok n) h = ap (λ (y : State). y.tape) h ∙ tape
   same_tape (Err e) h = ap (λ (y : State). y.tape) h
 
-  as_replied : (x : Result A GateFault) → Changes x s t u → MatchResult x (λ n. (replied f x ≡ f n) × (t ≡ u)) (λ e. Refusing e s (replied f x) t)
+  as_replied : (x : Result A GateFault) → Changes x s t u → MatchResult x (λ n. (map_ok f x ≡ Ok (f n)) × (t ≡ u)) (λ e. Refusing e s (map_ok f x) t)
   as_replied (Ok n) h = (refl, h)
   as_replied (Err e) h = (refl, h)
 
-  pub quiet_step : (m : Levels) → Changes r s t u → Quiet m (since s t) m × MatchResult v (λ n. (replied f r ≡ f n) × (t ≡ u)) (λ e. Refusing e s (replied f r) t)
+  pub quiet_step : (m : Levels) → Changes r s t u → Quiet m (since s t) m × MatchResult v (λ n. (map_ok f r ≡ Ok (f n)) × (t ≡ u)) (λ e. Refusing e s (map_ok f r) t)
   quiet_step m h = (
     (none_since s t (same_tape r h), refl),
-    subst (λ w. MatchResult w (λ n. (replied f r ≡ f n) × (t ≡ u)) (λ e. Refusing e s (replied f r) t)) is (as_replied r h),
+    subst (λ w. MatchResult w (λ n. (map_ok f r ≡ Ok (f n)) × (t ≡ u)) (λ e. Refusing e s (map_ok f r) t)) is (as_replied r h),
   )
 
 -- a bell writes no line
@@ -83,7 +84,7 @@ kept_tape : (s : State) (n : ℕ) (t : Terms) (units : ℕ) (c : Channel) → (k
 kept_tape s n t units channel.Plain = refl
 kept_tape s n t units channel.Exempt = refl
 
-pub enter_tape : (s : State) (o : OrderTerms) (a : Reply) (t : State) → EnterStep s o a t → t.tape ≡ s.tape
+pub enter_tape : (s : State) (o : OrderTerms) (a : Verdict) (t : State) → EnterStep s o a t → t.tape ≡ s.tape
 enter_tape s o a t d =
     ⊎_elim
     (λ x.
@@ -98,9 +99,9 @@ enter_tape s o a t d =
 
 -- Work
 
-work_refused : (s : State) (m : Levels) (z : ℤ) (f : GateFault) → working s m z ≡ Err f → WorkStep s m z (reply.Refused f) (since s s) s m
+work_refused : (s : State) (m : Levels) (z : ℤ) (f : GateFault) → working s m z ≡ Err f → WorkStep s m z (Err f) (since s s) s m
 work_refused s m z f is =
-    subst (λ v. MatchResult v (λ g. Works s m g (reply.Refused f) (since s s) s m) (λ e. Quiet m (since s s) m × Refusing e s (reply.Refused f) s)) (sym is) ((none_since s s refl, refl), (refl, refl))
+    subst (λ v. MatchResult v (λ g. Works s m g (Err f) (since s s) s m) (λ e. Quiet m (since s s) m × Refusing e s (Err f) s)) (sym is) ((none_since s s refl, refl), (refl, refl))
 
 module _ (s : State) (m : Levels) (z : ℤ) where
   abbrev room_check : Resting → Result Line GateFault
@@ -109,25 +110,25 @@ module _ (s : State) (m : Levels) (z : ℤ) where
   abbrev rest_check : Bool → Option Resting → Result Line GateFault
   rest_check is v = check is gate.Phase (when_resting v room_check)
 
-  pub not_open : is_open s.phase ≡ false → WorkStep s m z (reply.Refused gate.Phase) (since s s) s m
+  pub not_open : is_open s.phase ≡ false → WorkStep s m z (Err gate.Phase) (since s s) s m
   not_open e = work_refused s m z gate.Phase (ap (λ b. rest_check b (lookup s.order z)) e)
 
   module _ (opened : is_open s.phase ≡ true) where
     at_order : (v : Option Resting) → v ≡ lookup s.order z → working s m z ≡ when_resting v room_check
     at_order v e = ap (λ b. rest_check b (lookup s.order z)) opened ∙ ap (λ x. when_resting x room_check) (sym e)
 
-    pub not_resting : None ≡ lookup s.order z → WorkStep s m z (reply.Refused gate.NotResting) (since s s) s m
+    pub not_resting : None ≡ lookup s.order z → WorkStep s m z (Err gate.NotResting) (since s s) s m
     not_resting e = work_refused s m z gate.NotResting (at_order None e)
 
     module _ (o : RestingOrder) (found : Some (resting_of o) ≡ lookup s.order z) where
       at_room : (full : Bool) → tape_full s ≡ full → working s m z ≡ check (not full) gate.TapeFull (matched s m (resting_of o))
       at_room full e = at_order (Some (resting_of o)) found ∙ ap (λ b. check (not b) gate.TapeFull (matched s m (resting_of o))) e
 
-      pub tape_full_lem : tape_full s ≡ true → WorkStep s m z (reply.Refused gate.TapeFull) (since s s) s m
+      pub tape_full_lem : tape_full s ≡ true → WorkStep s m z (Err gate.TapeFull) (since s s) s m
       tape_full_lem e = work_refused s m z gate.TapeFull (at_room true e)
 
       module _ (free : tape_full s ≡ false) where
-        pub not_filled : (f : GateFault) → quoted_for s m o ≡ Err f → WorkStep s m z (reply.Refused f) (since s s) s m
+        pub not_filled : (f : GateFault) → quoted_for s m o ≡ Err f → WorkStep s m z (Err f) (since s s) s m
         not_filled f e = work_refused s m z f (at_room false free ∙ ap (map_ok (line_for (resting_of o) (length s.notices))) e)
 
         pub work_done : (f : Fill) (t : State) (m' : Levels) → quoted_for s m o ≡ Ok (filling_of f) → Settles s m (line_with s o f) t m' → WorkStep s m z (worked (line_with s o f)) (since s t) t m'
@@ -140,15 +141,15 @@ module _ (s : State) (m : Levels) (z : ℤ) where
 -- Sweep
 
 module _ (s : State) (m : Levels) where
-  pub not_swept : is_open s.phase ≡ false → SweepStep s m (reply.Refused gate.Phase) (since s s) s m
+  pub not_swept : is_open s.phase ≡ false → SweepStep s m (Err gate.Phase) (since s s) s m
   not_swept e =
-      subst (λ b. MatchResult (check b gate.Phase (Ok tt)) (λ _. Swept s m (reply.Refused gate.Phase) (since s s) s m) (λ f. Quiet m (since s s) m × Refusing f s (reply.Refused gate.Phase) s)) (sym e)
+      subst (λ b. MatchResult (check b gate.Phase (Ok tt)) (λ _. Swept s m (Err gate.Phase) (since s s) s m) (λ f. Quiet m (since s s) m × Refusing f s (Err gate.Phase) s)) (sym e)
       ((none_since s s refl, refl), (refl, refl))
 
-  pub sweep_done : (r : Tally) (t : State) (m' : Levels) → is_open s.phase ≡ true → Sweeping s m r t m' → SweepStep s m (reply.Sweep r) (since s t) t m'
+  pub sweep_done : (r : Tally) (t : State) (m' : Levels) → is_open s.phase ≡ true → Sweeping s m r t m' → SweepStep s m (Ok (reply.Sweep r)) (since s t) t m'
   sweep_done r t m' e d =
       let is = since_is s t d.fills d.tape in
       let lines : r.lines ≡ length (since s t) = d.lines ∙ ap length (sym is) in
       let units : r.units ≡ volume (since s t) = d.units ∙ ap volume (sym is) in
-      subst (λ b. MatchResult (check b gate.Phase (Ok tt)) (λ _. Swept s m (reply.Sweep r) (since s t) t m') (λ f. Quiet m (since s t) m' × Refusing f s (reply.Sweep r) t)) (sym e)
-      (r.outcome, λ i. reply.Sweep (record { lines = lines i; units = units i; outcome = r.outcome }), subst (λ l. Sweeps s m l t m') (sym is) d.sweeps, d.ended)
+      subst (λ b. MatchResult (check b gate.Phase (Ok tt)) (λ _. Swept s m (Ok (reply.Sweep r)) (since s t) t m') (λ f. Quiet m (since s t) m' × Refusing f s (Ok (reply.Sweep r)) t)) (sym e)
+      (r.outcome, λ i. Ok (reply.Sweep (record { lines = lines i; units = units i; outcome = r.outcome })), subst (λ l. Sweeps s m l t m') (sym is) d.sweeps, d.ended)

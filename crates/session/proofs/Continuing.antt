@@ -1,7 +1,7 @@
 -- How a session goes on with the day of its gate.
 use Rattle.std.proofs.Common.{◌≡◌, [], ◌∷◌, sym, refl, subst, arith}
 use Rattle.days.specs.declared.call.Call.{Call}
-use Rattle.days.specs.declared.reply.Reply.{Reply}
+use Rattle.days.specs.Verdicts.{Verdict}
 use Rattle.days.specs.History.{Leads, event}
 use Rattle.days.specs.Laws.{LeadsOn}
 use Rattle.days.proofs.Days as days
@@ -9,7 +9,7 @@ use Rattle.session.specs.Days.{HandsOn}
 use Rattle.session.specs.Views.{View}
 
 -- by a call
-pub by_call : (x y : View) (c : Call) (r : Reply) → LeadsOn c r x.gate x.levels y.gate y.levels → HandsOn x y
+pub by_call : (x y : View) (c : Call) (r : Verdict) → LeadsOn c r x.gate x.levels y.gate y.levels → HandsOn x y
 by_call x y c r on h leads =
     record {
       calls = event c r x.gate x.levels y.gate y.levels ∷ [];

@@ -15,10 +15,14 @@ use Rattle.market.specs.declared.quote.MarketFault.{MarketFault}
 use Rattle.orders.specs.declared.fault.GateFault.{GateFault}
 use Rattle.orders.specs.declared.fault.GateFault.TheVariants as gate
 use Rattle.orders.specs.declared.records.LegList.{LegList}
+use Rattle.orders.specs.Checks.{map_ok}
+use Rattle.orders.specs.declared.outcome.Outcome as ended
+use Rattle.orders.specs.declared.outcome.Outcome.TheVariants as end
 use Rattle.days.specs.declared.call.Call.{Call}
 use Rattle.days.specs.declared.call.Call.TheVariants as call
 use Rattle.days.specs.declared.reply.Reply.{Reply}
 use Rattle.days.specs.declared.reply.Reply.TheVariants as reply
+use Rattle.days.specs.Verdicts.{Verdict}
 use Rattle.days.specs.Laws.{LeadsOn}
 use Rattle.gate_calls.specs.Promises.{netting}
 use Rattle.session.specs.declared.fault.SessionFault.{SessionFault}
@@ -34,8 +38,7 @@ answer_of (reply.Phase bell units) = answer.Phase bell units
 answer_of (reply.Order x) = answer.Order x.number x.class
 answer_of (reply.Cancel units) = answer.Cancel units
 answer_of (reply.Work x) = answer.Work x.units x.net
-answer_of (reply.Sweep x) = answer.Sweep x.lines x.units x.outcome
-answer_of (reply.Refused f) = gate_refusal f
+answer_of (reply.Sweep x) = answer.Sweep x.lines x.units (outcome_of x.outcome)
 
 -- a line of another market is none that is known
 abbrev pub market_answer : Option (Result Answer MarketFault) → Answer
@@ -63,7 +66,7 @@ Unchanged x y = (y.gate ≡ x.gate) × (y.levels ≡ x.levels)
 
 -- one of the seven calls, over the session's market, with the law of the day
 abbrev pub Makes : Call → View → Answer → View → Type 0
-Makes c x a y = (r : Reply) × LeadsOn c r x.gate x.levels y.gate y.levels × (a ≡ answer_of r)
+Makes c x a y = (r : Verdict) × LeadsOn c r x.gate x.levels y.gate y.levels × (a ≡ told_by (map_ok answer_of r))
 
 -- a line of the market leaves the gate as it was
 abbrev pub Updates : Command → View → Answer → View → Type 0

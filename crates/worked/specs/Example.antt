@@ -1,6 +1,6 @@
 -- A day of nine calls, with their answers: two series, a notice, two orders, the opening, a work that is prevented, a sweep that fills
 -- both orders after the quote of series 0 has changed, and a cancel that comes too late.
-use Rattle.std.specs.Prelude.{ℕ, List, [], ◌∷◌, pos, Some, None}
+use Rattle.std.specs.Prelude.{ℕ, List, [], ◌∷◌, pos, Some, None, Ok, Err}
 use Rattle.strategy.specs.declared.leg.Kind.TheVariants.{Call as call-kind}
 use Rattle.strategy.specs.declared.leg.Side.TheVariants.{Buy, Sell}
 use Rattle.strategy.specs.declared.class.Class.TheVariants.{Vertical}
@@ -17,7 +17,7 @@ use Rattle.orders.specs.declared.records.OrderTerms.{OrderTerms}
 use Rattle.book.specs.Resting.{nothing}
 use Rattle.days.specs.declared.call.Call.{Call}
 use Rattle.days.specs.declared.call.Call.TheVariants as call
-use Rattle.days.specs.declared.reply.Reply.{Reply}
+use Rattle.days.specs.Verdicts.{Verdict}
 use Rattle.days.specs.declared.reply.Reply.TheVariants as reply
 use Rattle.days.specs.State.{State, Line}
 use Rattle.days.specs.Listings.{listed_in, posted_in}
@@ -97,24 +97,24 @@ market3 = filled_from (filled_in gate6 (line_of 1 3)) (filled_from gate6 market2
 -- The calls, the newest first
 
 -- a call that writes no line
-abbrev pub asked : Call → Reply → State → Levels → Event
+abbrev pub asked : Call → Verdict → State → Levels → Event
 asked c a s m = record { call = c; reply = a; before = s; market = m; left = m; fills = [] }
 
 abbrev pub morning : List Event
 morning =
-    asked (call.Work (pos 1)) (reply.Refused Prevented) gate6 market1
-    ∷ asked (call.Phase Open) (reply.Phase Open 0) gate5 market1
+    asked (call.Work (pos 1)) (Err Prevented) gate6 market1
+    ∷ asked (call.Phase Open) (Ok (reply.Phase Open 0)) gate5 market1
     ∷ asked (call.Enter order2) (order 2 (is Vertical 500)) gate4 market1
     ∷ asked (call.Enter order1) (order 1 (is Vertical 500)) gate3 market1
-    ∷ asked (call.Notice notice1) (reply.Notice 1) gate2 no_levels
-    ∷ asked (call.Series (call_at 2500)) (reply.Series 1) gate1 no_levels
-    ∷ asked (call.Series (call_at 2000)) (reply.Series 0) gate0 no_levels
+    ∷ asked (call.Notice notice1) (Ok (reply.Notice 1)) gate2 no_levels
+    ∷ asked (call.Series (call_at 2500)) (Ok (reply.Series 1)) gate1 no_levels
+    ∷ asked (call.Series (call_at 2000)) (Ok (reply.Series 0)) gate0 no_levels
     ∷ []
 
 abbrev pub day : List Event
 day =
-    asked (call.Cancel (pos 2)) (reply.Refused NotResting) gate7 market3
-    ∷ record { call = call.Sweep; reply = reply.Sweep (record { lines = 2; units = 5; outcome = Done }); before = gate6; market = market2; left = market3; fills = lines }
+    asked (call.Cancel (pos 2)) (Err NotResting) gate7 market3
+    ∷ record { call = call.Sweep; reply = Ok (reply.Sweep (record { lines = 2; units = 5; outcome = Done })); before = gate6; market = market2; left = market3; fills = lines }
     ∷ morning
 
 -- the calls lead a new gate to the last state

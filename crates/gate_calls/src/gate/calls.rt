@@ -8,7 +8,7 @@ ghost use Rattle.days.specs.declared.call.Call.TheVariants as asked;
 ghost use Rattle.days.specs.declared.reply.Reply.TheVariants as told;
 ghost use Rattle.days.specs.Listings.{listing, listed_in, posting, posted_in};
 ghost use Rattle.days.specs.Cancels.{cancelling, cancelled_in, ringing, rung_in};
-ghost use Rattle.days.specs.History.{since, replied, New, EnterStep, WorkStep, SweepStep};
+ghost use Rattle.days.specs.History.{since, New, EnterStep, WorkStep, SweepStep};
 ghost use Rattle.days.specs.Laws.{LeadsOn};
 ghost use Rattle.gate_calls.specs.Model.{state};
 ghost use Rattle.gate_calls.specs.Promises.{Changes, netting};
@@ -50,7 +50,7 @@ impl<'a> Gate<'a> {
     pub fn series(&mut self, terms: SeriesTerms) -> Result<u16, GateFault>
         ensures answer { result ≡ listing (state self.old) terms }
         ensures after { Changes result (state self.old) (state self.new) (listed_in (state self.old) terms) }
-        ensures law { (m : Levels) → LeadsOn (asked.Series terms) (replied told.Series result) (state self.old) m (state self.new) m }
+        ensures law { (m : Levels) → LeadsOn (asked.Series terms) (map_ok told.Series result) (state self.old) m (state self.new) m }
     {
         self.list(terms)
     }
@@ -59,7 +59,7 @@ impl<'a> Gate<'a> {
     pub fn notice(&mut self, terms: NoticeTerms) -> Result<u8, GateFault>
         ensures answer { result ≡ posting (state self.old) terms }
         ensures after { Changes result (state self.old) (state self.new) (posted_in (state self.old) terms) }
-        ensures law { (m : Levels) → LeadsOn (asked.Notice terms) (replied told.Notice result) (state self.old) m (state self.new) m }
+        ensures law { (m : Levels) → LeadsOn (asked.Notice terms) (map_ok told.Notice result) (state self.old) m (state self.new) m }
     {
         self.post(terms)
     }
@@ -68,15 +68,15 @@ impl<'a> Gate<'a> {
     pub fn phase(&mut self, bell: Bell) -> Result<u32, GateFault>
         ensures answer { result ≡ ringing (state self.old) bell }
         ensures after { Changes result (state self.old) (state self.new) (rung_in (state self.old) bell) }
-        ensures law { (m : Levels) → LeadsOn (asked.Phase bell) (replied (told.Phase bell) result) (state self.old) m (state self.new) m }
+        ensures law { (m : Levels) → LeadsOn (asked.Phase bell) (map_ok (told.Phase bell) result) (state self.old) m (state self.new) m }
     {
         self.ring(bell)
     }
 
     // Enters an order, and answers its number and class.
     pub fn enter(&mut self, terms: OrderTerms) -> Result<Acceptance, GateFault>
-        ensures step { EnterStep (state self.old) terms (replied told.Order result) (state self.new) }
-        ensures law { (m : Levels) → LeadsOn (asked.Enter terms) (replied told.Order result) (state self.old) m (state self.new) m }
+        ensures step { EnterStep (state self.old) terms (map_ok told.Order result) (state self.new) }
+        ensures law { (m : Levels) → LeadsOn (asked.Enter terms) (map_ok told.Order result) (state self.old) m (state self.new) m }
     {
         self.take_in(terms)
     }
@@ -85,23 +85,23 @@ impl<'a> Gate<'a> {
     pub fn cancel(&mut self, number: i32) -> Result<u16, GateFault>
         ensures answer { result ≡ cancelling (state self.old) number }
         ensures after { Changes result (state self.old) (state self.new) (cancelled_in (state self.old) number) }
-        ensures law { (m : Levels) → LeadsOn (asked.Cancel number) (replied told.Cancel result) (state self.old) m (state self.new) m }
+        ensures law { (m : Levels) → LeadsOn (asked.Cancel number) (map_ok told.Cancel result) (state self.old) m (state self.new) m }
     {
         self.withdraw(number)
     }
 
     // Works an order: one fill, one line of the tape.
     pub fn work<M: Market>(&mut self, number: i32, market: &mut M) -> Result<Execution, GateFault>
-        ensures step { WorkStep (state self.old) (M.levels market.old) number (replied told.Work result) (since (state self.old) (state self.new)) (state self.new) (M.levels market.new) }
-        ensures law { LeadsOn (asked.Work number) (replied told.Work result) (state self.old) (M.levels market.old) (state self.new) (M.levels market.new) }
+        ensures step { WorkStep (state self.old) (M.levels market.old) number (map_ok told.Work result) (since (state self.old) (state self.new)) (state self.new) (M.levels market.new) }
+        ensures law { LeadsOn (asked.Work number) (map_ok told.Work result) (state self.old) (M.levels market.old) (state self.new) (M.levels market.new) }
     {
         self.fill_one(number, market)
     }
 
     // Fills the lowest-numbered order that work would fill, again and again.
     pub fn sweep<M: Market>(&mut self, market: &mut M) -> Result<Tally, GateFault>
-        ensures step { SweepStep (state self.old) (M.levels market.old) (replied told.Sweep result) (since (state self.old) (state self.new)) (state self.new) (M.levels market.new) }
-        ensures law { LeadsOn asked.Sweep (replied told.Sweep result) (state self.old) (M.levels market.old) (state self.new) (M.levels market.new) }
+        ensures step { SweepStep (state self.old) (M.levels market.old) (map_ok told.Sweep result) (since (state self.old) (state self.new)) (state self.new) (M.levels market.new) }
+        ensures law { LeadsOn asked.Sweep (map_ok told.Sweep result) (state self.old) (M.levels market.old) (state self.new) (M.levels market.new) }
     {
         self.fill_book(market)
     }
@@ -116,38 +116,17 @@ impl<'a> Gate<'a> {
     }
 
     // Makes any of the seven calls.
-    pub fn apply<M: Market>(&mut self, call: Call, market: &mut M) -> Reply
+    pub fn apply<M: Market>(&mut self, call: Call, market: &mut M) -> Result<Reply, GateFault>
         ensures { LeadsOn call result (state self.old) (M.levels market.old) (state self.new) (M.levels market.new) }
     {
         match call {
-            Call::Series(terms) => match self.series(terms) {
-                Ok(number) => Reply::Series(number),
-                Err(fault) => Reply::Refused(fault),
-            },
-            Call::Notice(terms) => match self.notice(terms) {
-                Ok(number) => Reply::Notice(number),
-                Err(fault) => Reply::Refused(fault),
-            },
-            Call::Phase(bell) => match self.phase(bell) {
-                Ok(units) => Reply::Phase(bell, units),
-                Err(fault) => Reply::Refused(fault),
-            },
-            Call::Enter(terms) => match self.enter(terms) {
-                Ok(acceptance) => Reply::Order(acceptance),
-                Err(fault) => Reply::Refused(fault),
-            },
-            Call::Cancel(number) => match self.cancel(number) {
-                Ok(units) => Reply::Cancel(units),
-                Err(fault) => Reply::Refused(fault),
-            },
-            Call::Work(number) => match self.work(number, market) {
-                Ok(execution) => Reply::Work(execution),
-                Err(fault) => Reply::Refused(fault),
-            },
-            Call::Sweep => match self.sweep(market) {
-                Ok(tally) => Reply::Sweep(tally),
-                Err(fault) => Reply::Refused(fault),
-            },
+            Call::Series(terms) => self.series(terms).map(Reply::Series),
+            Call::Notice(terms) => self.notice(terms).map(Reply::Notice),
+            Call::Phase(bell) => self.phase(bell).map(|units| Reply::Phase(bell, units)),
+            Call::Enter(terms) => self.enter(terms).map(Reply::Order),
+            Call::Cancel(number) => self.cancel(number).map(Reply::Cancel),
+            Call::Work(number) => self.work(number, market).map(Reply::Work),
+            Call::Sweep => self.sweep(market).map(Reply::Sweep),
         }
     }
 }

@@ -6,7 +6,7 @@ ghost use Rattle.orders.specs.TurnedTerms.{terms_of};
 ghost use Rattle.days.specs.declared.reply.Reply.TheVariants as told;
 ghost use Rattle.days.specs.Cancels.{cancelling, cancelled_in};
 ghost use Rattle.days.specs.Entries.{limit_verdict, price_fault, placed, numbering, kept_in, entering, entered_in};
-ghost use Rattle.days.specs.History.{replied, EnterStep};
+ghost use Rattle.days.specs.History.{EnterStep};
 ghost use Rattle.gate_calls.specs.Model.{state};
 ghost use Rattle.gate_calls.specs.Promises.{Changes, placed_of};
 
@@ -104,7 +104,7 @@ impl Gate<'_> {
     }
 
     pub(super) fn take_in(&mut self, terms: OrderTerms) -> Result<Acceptance, GateFault>
-        ensures { EnterStep (state self.old) terms (replied told.Order result) (state self.new) }
+        ensures { EnterStep (state self.old) terms (map_ok told.Order result) (state self.new) }
     {
         let placed = self.place(terms)?;
         let strategy = Strategy::of(&placed.options);

@@ -6,7 +6,7 @@ ghost use Rattle.fills.specs.Fillings.{filling_of};
 ghost use Rattle.days.specs.State.{line_of, tape_full, lookup};
 ghost use Rattle.days.specs.Works.{is_open, line_for};
 ghost use Rattle.days.specs.declared.reply.Reply.TheVariants as told;
-ghost use Rattle.days.specs.History.{since, replied, WorkStep, SweepStep};
+ghost use Rattle.days.specs.History.{since, WorkStep, SweepStep};
 ghost use Rattle.gate_calls.specs.Model.{state};
 ghost use Rattle.gate_calls.specs.Promises.{quoted_for, line_with, FirstMatch, Settles, Sweeping};
 
@@ -113,7 +113,7 @@ impl Gate<'_> {
         number: i32,
         market: &mut M,
     ) -> Result<Execution, GateFault>
-        ensures { WorkStep (state self.old) (M.levels market.old) number (replied told.Work result) (since (state self.old) (state self.new)) (state self.new) (M.levels market.new) }
+        ensures { WorkStep (state self.old) (M.levels market.old) number (map_ok told.Work result) (since (state self.old) (state self.new)) (state self.new) (M.levels market.new) }
     {
         if !self.is_open() {
             return Err(GateFault::Phase);
@@ -144,7 +144,7 @@ impl Gate<'_> {
     }
 
     pub(super) fn fill_book<M: Market>(&mut self, market: &mut M) -> Result<Tally, GateFault>
-        ensures { SweepStep (state self.old) (M.levels market.old) (replied told.Sweep result) (since (state self.old) (state self.new)) (state self.new) (M.levels market.new) }
+        ensures { SweepStep (state self.old) (M.levels market.old) (map_ok told.Sweep result) (since (state self.old) (state self.new)) (state self.new) (M.levels market.new) }
     {
         if !self.is_open() {
             return Err(GateFault::Phase);

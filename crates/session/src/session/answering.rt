@@ -3,7 +3,7 @@ ghost use Rattle.std.specs.Prelude.{◌≡◌, MatchResult};
 ghost use Rattle.line_writer.specs.Areas.{TooSmall};
 ghost use Rattle.gate_calls.specs.Model.{state};
 ghost use Rattle.gate_calls.specs.Promises.{netting};
-ghost use Rattle.session.specs.Answering.{told, told_by, answer_of, net_answer, Makes, Updates, Obeys, Does, Answers};
+ghost use Rattle.session.specs.Answering.{told, outcome_of, answer_of, net_answer, Makes, Updates, Obeys, Does, Answers};
 ghost use Rattle.session.specs.Days.{HandsOn};
 ghost use Rattle.session.specs.Views.{view};
 
@@ -18,7 +18,7 @@ use days::reply::Reply;
 use gate_calls::gate::Gate;
 use line_writer::line::CAPACITY;
 use lines::fault::LineFault;
-use orders::fault::GateFault;
+use orders::outcome::Outcome;
 use orders::records::LegList;
 
 // The lines of every market.
@@ -37,32 +37,31 @@ fn cents(price: Option<i32>) -> Option<i64>
     }
 }
 
-// The answer to a call; a refusal goes up.
-fn answer_of(reply: Reply) -> Result<Answer, GateFault>
-    ensures { told_by result ≡ answer_of reply }
+// A reply of the gate, as an answer says it.
+fn answer_of(reply: Reply) -> Answer
+    ensures { result ≡ answer_of reply }
 {
     match reply {
-        Reply::Series(number) => Ok(Answer::Series(u32::from(number))),
-        Reply::Notice(number) => Ok(Answer::Notice(u32::from(number))),
-        Reply::Phase(bell, units) => Ok(Answer::Phase {
+        Reply::Series(number) => Answer::Series(u32::from(number)),
+        Reply::Notice(number) => Answer::Notice(u32::from(number)),
+        Reply::Phase(bell, units) => Answer::Phase {
             bell,
             units: u64::from(units),
-        }),
-        Reply::Order(acceptance) => Ok(Answer::Order {
+        },
+        Reply::Order(acceptance) => Answer::Order {
             number: u32::from(acceptance.number),
             class: acceptance.class,
-        }),
-        Reply::Cancel(units) => Ok(Answer::Cancel(u64::from(units))),
-        Reply::Work(execution) => Ok(Answer::Work {
+        },
+        Reply::Cancel(units) => Answer::Cancel(u64::from(units)),
+        Reply::Work(execution) => Answer::Work {
             units: u64::from(execution.units),
             net: i64::from(execution.net),
-        }),
-        Reply::Sweep(tally) => Ok(Answer::Sweep {
+        },
+        Reply::Sweep(tally) => Answer::Sweep {
             lines: u32::from(tally.lines),
             units: u64::from(tally.units),
-            outcome: tally.outcome,
-        }),
-        Reply::Refused(fault) => Err(fault),
+            outcome: said_outcome(tally.outcome),
+        },
     }
 }
 
@@ -89,8 +88,8 @@ impl<'a, V: Venue> Session<'a, V> {
         ensures makes { Makes call (view V.Market.levels V.Venue.updated V.Venue.after self.old) (told result) (view V.Market.levels V.Venue.updated V.Venue.after self.new) }
         ensures law { HandsOn (view V.Market.levels V.Venue.updated V.Venue.after self.old) (view V.Market.levels V.Venue.updated V.Venue.after self.new) }
     {
-        let reply = self.gate.apply(call, &mut self.venue);
-        Ok(answer_of(reply)?)
+        let reply = self.gate.apply(call, &mut self.venue)?;
+        Ok(answer_of(reply))
     }
 
     // A line of the market.

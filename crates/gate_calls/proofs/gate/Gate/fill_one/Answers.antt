@@ -1,4 +1,4 @@
-use Rattle.std.proofs.Common.{◌≡◌, sym, ap, ◌∙◌, subst, w32}
+use Rattle.std.proofs.Common.{◌≡◌, Ok, sym, ap, ◌∙◌, subst, w32}
 use mir.ValLaws.{to_z-of_z}
 use Rattle.std.proofs.lemmas.Result.{err_from_is_err_and}
 use Rattle.orders.specs.Checks.{map_ok}
@@ -46,6 +46,6 @@ returns g c =
     let f = c.in_ok-fill.fill in
     let said = c.execution.ensures in
     let same : c.execution.result ≡ record { units = f.units; net = f.net } = λ i. record { units = said.0 i; net = said.1 i } in
-    subst (λ (x : Execution). WorkStep s m c.args.number (told.Work x) (since s t) t m') (sym same)
+    subst (λ (x : Execution). WorkStep s m c.args.number (Ok (told.Work x)) (since s t) t m') (sym same)
     (work_done s m c.args.number (sym c.is_open.ensures ∙ c.if-not-is_open.false) c.in-Some.order (c.in-Some.ensures.is ∙ ap (lookup s.order) (to_z-of_z w32 c.args.number c.ranges.number))
     (sym c.is_tape_full.ensures.value ∙ c.if-is_tape_full.false) f t m' (sym c.in_ok-fill.ensures) c.settle.ensures)
