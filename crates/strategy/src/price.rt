@@ -12,7 +12,7 @@ use crate::legs::Legs;
 
 // The buffers of a class in cents, and a percentage of the width in hundredths of a percent. `absolute` and `percentage` bound the Maximum
 // Value Buffer.
-#[derive(Clone, Copy)]
+#[derive(Clone, Copy, Default)]
 pub struct Buffer {
     pub minimum: u16,
     pub absolute: u16,
@@ -20,7 +20,7 @@ pub struct Buffer {
 }
 
 // The buffers that a notice carries.
-#[derive(Clone, Copy)]
+#[derive(Clone, Copy, Default)]
 pub struct Buffers {
     pub vertical: Buffer,
     pub butterfly: Buffer,
