@@ -12,8 +12,8 @@ use Rattle.orders.specs.declared.bell.Bell.{Bell}
 use Rattle.orders.specs.declared.bell.Bell.TheVariants.{Open, Halt, Resume, Close}
 use Rattle.orders.specs.declared.records.SeriesTerms.{SeriesTerms}
 use Rattle.orders.specs.declared.records.NoticeTerms.{NoticeTerms}
-use Rattle.orders.specs.declared.records.QuoteTerms.{QuoteTerms}
-use Rattle.orders.specs.declared.records.LevelTerms.{LevelTerms}
+use Rattle.market.specs.declared.terms.QuoteTerms.{QuoteTerms}
+use Rattle.market.specs.declared.terms.LevelTerms.{LevelTerms}
 use Rattle.orders.specs.declared.records.LegTerms.{LegTerms}
 use Rattle.orders.specs.declared.records.LegList.{LegList}
 use Rattle.orders.specs.declared.records.Channel.{Channel}

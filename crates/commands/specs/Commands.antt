@@ -5,8 +5,8 @@ use Rattle.orders.specs.Words.{bell_name}
 use Rattle.orders.specs.declared.records.SeriesTerms.{SeriesTerms}
 use Rattle.orders.specs.declared.records.BufferTerms.{BufferTerms}
 use Rattle.orders.specs.declared.records.NoticeTerms.{NoticeTerms}
-use Rattle.orders.specs.declared.records.QuoteTerms.{QuoteTerms}
-use Rattle.orders.specs.declared.records.LevelTerms.{LevelTerms}
+use Rattle.market.specs.declared.terms.QuoteTerms.{QuoteTerms}
+use Rattle.market.specs.declared.terms.LevelTerms.{LevelTerms}
 use Rattle.orders.specs.declared.records.LegTerms.{LegTerms}
 use Rattle.orders.specs.declared.records.OrderTerms.{OrderTerms}
 use Rattle.commands.specs.Legs.{LegsRead, legs_parts}

@@ -2,8 +2,9 @@
 ghost use Rattle.std.specs.Prelude.{◌≡◌};
 ghost use Rattle.commands.specs.Feeds.{takes};
 
+use market::terms::{LevelTerms, QuoteTerms};
 use orders::bell::Bell;
-use orders::records::{LegList, LevelTerms, NoticeTerms, OrderTerms, QuoteTerms, SeriesTerms};
+use orders::records::{LegList, NoticeTerms, OrderTerms, SeriesTerms};
 
 #[derive(Clone, Copy)]
 pub enum Command {

@@ -5,8 +5,8 @@ ghost use Rattle.orders.specs.declared.bell.Bell.{Bell};
 ghost use Rattle.orders.specs.declared.records.SeriesTerms.{SeriesTerms};
 ghost use Rattle.orders.specs.declared.records.BufferTerms.{BufferTerms};
 ghost use Rattle.orders.specs.declared.records.NoticeTerms.{NoticeTerms};
-ghost use Rattle.orders.specs.declared.records.QuoteTerms.{QuoteTerms};
-ghost use Rattle.orders.specs.declared.records.LevelTerms.{LevelTerms};
+ghost use Rattle.market.specs.declared.terms.QuoteTerms.{QuoteTerms};
+ghost use Rattle.market.specs.declared.terms.LevelTerms.{LevelTerms};
 ghost use Rattle.orders.specs.declared.records.OrderTerms.{OrderTerms};
 ghost use Rattle.commands.specs.Commands.{buffers_parts, limit_parts, series_parts, notice_parts, quote_parts, level_parts, OrderSays, Means};
 ghost use Rattle.commands.specs.Parts.{Part, word, number, rest};
@@ -17,10 +17,9 @@ use crate::legs::read_legs;
 use crate::words::{Head, Pricing};
 use lines::cursor::Cursor;
 use market::quote::QuoteSide;
+use market::terms::{LevelTerms, QuoteTerms};
 use orders::bell::Bell;
-use orders::records::{
-    BufferTerms, Channel, LevelTerms, NoticeTerms, OrderTerms, QuoteTerms, SeriesTerms,
-};
+use orders::records::{BufferTerms, Channel, NoticeTerms, OrderTerms, SeriesTerms};
 use strategy::leg::{Kind, Side};
 
 fn read_series(from: &mut Cursor) -> Option<SeriesTerms>

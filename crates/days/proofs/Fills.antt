@@ -161,9 +161,9 @@ plus_some None b c e = absurd (some_none c (sym e))
 plus_some (Some x) None c e = absurd (some_none c (sym e))
 plus_some (Some x) (Some y) c e = (x, y, refl, refl, sym (same_some (x +ℤ y) c e))
 
-part_some : (g : TradedLeg) (best : Option (ℕ × ℕ)) (x : ℤ) → part_of g best ≡ Some x → x ≡ signed g.side (g.ratio * (level_of best).price)
+part_some : (g : TradedLeg) (best : Option Level) (x : ℤ) → part_of g best ≡ Some x → x ≡ signed g.side (g.ratio * (level_of best).price)
 part_some g None x e = absurd (some_none x (sym e))
-part_some g (Some best) x e = sym (same_some (signed g.side (g.ratio * best.0)) x e)
+part_some g (Some best) x e = sym (same_some (signed g.side (g.ratio * best.price)) x e)
 
 pub net_is : (m : Levels) (q : QuoteSide) (gs : List TradedLeg) (net : ℤ) → net_side m gs q ≡ Some net → net ≡ net_of (map (leg_fill m q) gs)
 net_is m q [] net e = sym (same_some (pos 0) net e)

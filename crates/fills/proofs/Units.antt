@@ -28,7 +28,7 @@ ratio_first g gs e =
     let p = and_parts (leb 1 g.ratio && leb g.ratio 12) (ratios_in_range gs) e in
     (leb-true 1 g.ratio (and_parts (leb 1 g.ratio) (leb g.ratio 12) p.0).0, p.1)
 
-both_there : (g : TradedLeg) (best : Option (ℕ × ℕ)) (rest : Option ℤ) → 1 ≤ g.ratio → g.ratio ≤ (level_of best).size → is_some rest ≡ true → is_some (plus (part_of g best) rest) ≡ true
+both_there : (g : TradedLeg) (best : Option Level) (rest : Option ℤ) → 1 ≤ g.ratio → g.ratio ≤ (level_of best).size → is_some rest ≡ true → is_some (plus (part_of g best) rest) ≡ true
 both_there g None rest h k e = absurd (omega arith)
 both_there g (Some best) None h k e = e
 both_there g (Some best) (Some x) h k e = refl

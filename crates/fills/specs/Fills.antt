@@ -27,10 +27,10 @@ abbrev pub taken_side : Side → QuoteSide
 taken_side Buy = Offer
 taken_side Sell = Bid
 
--- a best price and its size as a level; without one, nothing at price 0
-abbrev pub level_of : Option (ℕ × ℕ) → Level
+-- a best level, or without one nothing at price 0
+abbrev pub level_of : Option Level → Level
 level_of None = record { price = 0; size = 0 }
-level_of (Some best) = record { price = best.0; size = best.1 }
+level_of (Some best) = best
 
 -- the first level that a leg uses for one side of the net market
 abbrev pub used_level : Levels → QuoteSide → TradedLeg → Level

@@ -34,10 +34,8 @@ pub fn taken_side(side: Side) -> QuoteSide
 fn used_level<M: Market>(market: &M, leg: &TradedLeg, net: QuoteSide) -> Level
     ensures { result ≡ used_level (M.levels market.now) net leg.now }
 {
-    match market.best(leg.series as usize, leg.used_side(net)) {
-        Some((price, size)) => Level { price, size },
-        None => Level { price: 0, size: 0 },
-    }
+    let best = market.best(usize::from(leg.series), leg.used_side(net));
+    best.unwrap_or(Level { price: 0, size: 0 })
 }
 
 // The first leg, from 1, whose level lacks its ratio.

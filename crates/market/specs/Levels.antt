@@ -28,10 +28,10 @@ Ranked s [] = Unit {0}
 Ranked s (l ∷ []) = InRange l
 Ranked s (l ∷ (m ∷ ms)) = InRange l × NotWorse s l.price m.price × Ranked s (m ∷ ms)
 
--- the price and the size of the first level
-abbrev pub best_of : List Level → Option (ℕ × ℕ)
+-- the first level
+abbrev pub best_of : List Level → Option Level
 best_of [] = None
-best_of (l ∷ ls) = Some (l.price, l.size)
+best_of (l ∷ ls) = Some l
 
 -- whether n contracts can be taken from the first level
 abbrev pub can_take : List Level → ℕ → Bool

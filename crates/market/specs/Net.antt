@@ -1,9 +1,10 @@
 -- The net market of some legs.
-use Rattle.std.specs.Prelude.{ℕ, ◌*◌, List, [], ◌∷◌, ℤ, pos, ◌+ℤ◌, Some, None, Option}
+use Rattle.std.specs.Prelude.{◌*◌, List, [], ◌∷◌, ℤ, pos, ◌+ℤ◌, Some, None, Option}
 use Rattle.strategy.specs.declared.leg.Side.{Side}
 use Rattle.strategy.specs.declared.leg.Side.TheVariants.{Buy, Sell}
 use Rattle.market.specs.declared.quote.QuoteSide.{QuoteSide}
 use Rattle.market.specs.declared.quote.QuoteSide.TheVariants.{Bid, Offer}
+use Rattle.market.specs.declared.quote.Level.{Level}
 use Rattle.market.specs.declared.quote.TwoSided.{TwoSided}
 use Rattle.market.specs.declared.leg.TradedLeg.{TradedLeg}
 use Rattle.strategy.specs.Payoff.{signed}
@@ -16,9 +17,9 @@ used_side Buy q = q
 used_side Sell q = opposite q
 
 -- a leg's part of a net price: ratio times the best price, nothing if there is none
-abbrev pub part_of : TradedLeg → Option (ℕ × ℕ) → Option ℤ
+abbrev pub part_of : TradedLeg → Option Level → Option ℤ
 part_of g None = None
-part_of g (Some best) = Some (signed g.side (g.ratio * best.0))
+part_of g (Some best) = Some (signed g.side (g.ratio * best.price))
 
 abbrev pub leg_part : Levels → QuoteSide → TradedLeg → Option ℤ
 leg_part b q g = part_of g (best_of (b g.series (used_side g.side q)))

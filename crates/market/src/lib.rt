@@ -5,4 +5,5 @@ pub mod leg;
 pub mod net;
 pub mod quote;
 pub mod takes;
+pub mod terms;
 pub mod trading;

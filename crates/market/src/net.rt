@@ -28,8 +28,8 @@ fn net_side<M: Market>(market: &M, legs: &[TradedLeg], side: QuoteSide) -> Optio
 {
     let mut sum: i32 = 0;
     for leg in legs {
-        let (price, _) = market.best(leg.series as usize, leg.used_side(side))?;
-        sum += signed_price(leg, price);
+        let level = market.best(usize::from(leg.series), leg.used_side(side))?;
+        sum += signed_price(leg, level.price);
     }
     Some(sum)
 }

@@ -43,10 +43,9 @@ fn is_ready<M: Market>(market: &M, leg: &TradedLeg, net: QuoteSide, units: u16) 
     ensures { result ≡ leg_ready (M.levels market.now) net units leg.now }
 {
     let n = contracts(leg, units);
-    match market.best(leg.series as usize, leg.used_side(net)) {
-        Some((_, size)) => 0 < n && n <= size,
-        None => false,
-    }
+    market
+        .best(usize::from(leg.series), leg.used_side(net))
+        .is_some_and(|level| 0 < n && n <= level.size)
 }
 
 fn are_ready<M: Market>(market: &M, legs: &[TradedLeg], net: QuoteSide, units: u16) -> bool

@@ -3,7 +3,7 @@ ghost use Rattle.std.specs.Prelude.{◌≡◌, ℕ, ◌≤◌, []};
 ghost use Rattle.market.specs.declared.quote.QuoteSide.{QuoteSide};
 ghost use Rattle.market.specs.Levels.{Levels, Ranked, best_of, take_answer, taken_at};
 
-use crate::quote::{MarketFault, QuoteSide};
+use crate::quote::{Level, MarketFault, QuoteSide};
 
 pub trait Market {
     // the levels of each series and side
@@ -12,8 +12,8 @@ pub trait Market {
     // how many series the market covers
     ghost count: { Self → ℕ };
 
-    // The price and the size of the first level.
-    fn best(&self, series: usize, side: QuoteSide) -> Option<(u16, u32)>
+    // The first level.
+    fn best(&self, series: usize, side: QuoteSide) -> Option<Level>
         ensures { result ≡ best_of (levels self.now series side) };
 
     // Takes n contracts from the first level.

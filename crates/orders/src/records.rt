@@ -8,7 +8,6 @@ ghost use Rattle.orders.specs.LegLists.{abridged};
 ghost use Rattle.orders.specs.Orders.{legs_of, two_to_four};
 
 use crate::fault::OrderFault;
-use market::quote::QuoteSide;
 use strategy::leg::{Kind, Side};
 use strategy::legs::Legs;
 
@@ -33,23 +32,6 @@ pub struct NoticeTerms {
     pub vertical: BufferTerms,
     pub butterfly: BufferTerms,
     pub boxes: BufferTerms,
-}
-
-#[derive(Clone, Copy)]
-pub struct QuoteTerms {
-    pub series: i32,
-    pub bid_price: i32,
-    pub bid_size: i32,
-    pub offer_price: i32,
-    pub offer_size: i32,
-}
-
-#[derive(Clone, Copy)]
-pub struct LevelTerms {
-    pub series: i32,
-    pub side: QuoteSide,
-    pub price: i32,
-    pub size: i32,
 }
 
 #[derive(Clone, Copy)]

@@ -4,6 +4,7 @@ use anyhow::anyhow;
 use market::leg::TradedLeg;
 use market::net::net_market;
 use market::quote::{QuoteSide, TwoSided};
+use market::terms::QuoteTerms;
 use market::trading::Market;
 use std::{fmt, io};
 use strategy::class::Strategy;
@@ -43,7 +44,7 @@ fn kind_word(kind: Kind) -> &'static str {
 
 fn leg_price(board: &Board, series: usize, side: QuoteSide) -> OrNone {
     match board.best(series, side) {
-        Some((price, _)) => OrNone(Some(i64::from(price))),
+        Some(level) => OrNone(Some(i64::from(level.price))),
         None => OrNone(None),
     }
 }
@@ -80,7 +81,14 @@ fn traded(leg: &Leg, series: u8) -> TradedLeg {
 fn post_quotes(board: &mut Board, quotes: &[(i32, i32)]) -> anyhow::Result<()> {
     let mut series = 0;
     for (bid, offer) in quotes {
-        if board.quote(series, *bid, 10, *offer, 10).is_err() {
+        let terms = QuoteTerms {
+            series,
+            bid_price: *bid,
+            bid_size: 10,
+            offer_price: *offer,
+            offer_size: 10,
+        };
+        if board.quote(terms).is_err() {
             return Err(anyhow!("a quote of the sheet is refused"));
         }
         series = series.wrapping_add(1);

@@ -6,8 +6,8 @@ use Rattle.answers.specs.declared.answer.Answer.{Answer}
 use Rattle.answers.specs.Said.{said}
 use Rattle.commands.specs.declared.command.Command.{Command}
 use Rattle.commands.specs.declared.command.Command.TheVariants.{Quote, Level}
-use Rattle.orders.specs.declared.records.QuoteTerms.{QuoteTerms}
-use Rattle.orders.specs.declared.records.LevelTerms.{LevelTerms}
+use Rattle.market.specs.declared.terms.QuoteTerms.{QuoteTerms}
+use Rattle.market.specs.declared.terms.LevelTerms.{LevelTerms}
 use Rattle.session.specs.Answering.{Updates, Obeys, Does, Answers}
 use Rattle.session.specs.Views.{View}
 

@@ -8,8 +8,8 @@ use Rattle.market.specs.declared.quote.Level as shown
 use Rattle.market.specs.declared.quote.TwoSided.{TwoSided}
 use Rattle.market.specs.declared.quote.MarketFault.{MarketFault}
 use Rattle.market.specs.Levels.{Levels}
-use Rattle.orders.specs.declared.records.QuoteTerms.{QuoteTerms}
-use Rattle.orders.specs.declared.records.LevelTerms.{LevelTerms}
+use Rattle.market.specs.declared.terms.QuoteTerms.{QuoteTerms}
+use Rattle.market.specs.declared.terms.LevelTerms.{LevelTerms}
 use Rattle.orders.specs.Checks.{map_ok, amount}
 use Rattle.venues.specs.declared.board.Board.{Board}
 use Rattle.venues.specs.declared.ladder.Ladder.{Ladder}
@@ -48,7 +48,7 @@ level_in (Net l) = None
 
 -- the numbers of a quote
 abbrev pub quote_numbers : QuoteTerms → Result (ℕ × TwoSided shown.Level) MarketFault
-quote_numbers x = quote_of 255 x.series x.bid_price x.bid_size x.offer_price x.offer_size
+quote_numbers x = quote_of 255 x
 
 abbrev pub answer_quote : Option QuoteTerms → Option (Result Answer MarketFault)
 answer_quote None = None
@@ -68,7 +68,7 @@ board_after b c = take_quote (board_levels b) (quote_in c)
 
 -- the numbers of a level
 abbrev pub level_numbers : LevelTerms → Result (ℕ × ℕ × ℕ) MarketFault
-level_numbers x = level_call 15 x.series x.price x.size
+level_numbers x = level_call 15 x
 
 abbrev pub answer_level : Levels → Option LevelTerms → Option (Result Answer MarketFault)
 answer_level m None = None

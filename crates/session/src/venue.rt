@@ -44,13 +44,7 @@ impl Venue for Board {
         let Command::Quote(terms) = command else {
             return None;
         };
-        match self.quote(
-            terms.series,
-            terms.bid_price,
-            terms.bid_size,
-            terms.offer_price,
-            terms.offer_size,
-        ) {
+        match self.quote(terms) {
             Ok(()) => Some(Ok(Answer::Quote(series_number(terms.series)))),
             Err(fault) => Some(Err(fault)),
         }
@@ -67,7 +61,7 @@ impl Venue for Ladder {
         let Command::Level(terms) = command else {
             return None;
         };
-        match self.level(terms.series, terms.side, terms.price, terms.size) {
+        match self.level(terms) {
             Ok(()) => Some(Ok(Answer::Level(series_number(terms.series)))),
             Err(fault) => Some(Err(fault)),
         }

@@ -5,9 +5,9 @@ use Rattle.std.specs.List.{insert, remove}
 use Rattle.std.proofs.lemmas.List.{places, get_or-set_same, get_or-set_other, same_lists, get_or-take, length-take}
 use Rattle.std.proofs.lemmas.Bool.{cases_lt, cases_order}
 use Rattle.market.specs.declared.quote.Level.{Level}
-use Rattle.venues.specs.Ordered.{first_of}
+use Rattle.market.specs.Levels.{best_of}
 
-pub first_take : (xs : List Level) (n : ℕ) (d : Level) → 0 < n → 0 < length xs → first_of (take n xs) ≡ Some (get_or xs 0 d)
+pub first_take : (xs : List Level) (n : ℕ) (d : Level) → 0 < n → 0 < length xs → best_of (take n xs) ≡ Some (get_or xs 0 d)
 first_take xs zero d h k = absurd (omega arith)
 first_take [] (suc n) d h k = absurd (omega arith)
 first_take (x ∷ xs) (suc n) d h k = refl

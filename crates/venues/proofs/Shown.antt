@@ -1,5 +1,5 @@
 -- The size shown at a price of ordered levels.
-use Rattle.std.proofs.Common.{◌≡◌, ℕ, ◌<◌, ◌≤◌, Bool, true, false, cond, not, ◌&&◌, eqb, leb, List, [], ◌∷◌, length, ℤ, pos, is_ok, Some, None, Ok, Err, Option, Result, sym, refl, ap, ◌∙◌, ⊎_elim, arith}
+use Rattle.std.proofs.Common.{◌≡◌, ℕ, ◌<◌, ◌≤◌, Bool, true, false, cond, not, ◌&&◌, eqb, leb, List, [], ◌∷◌, length, pos, is_ok, Some, None, Ok, Err, Option, Result, sym, refl, ap, ◌∙◌, ⊎_elim, arith}
 use Rattle.std.proofs.lemmas.Bool.{cond-true, cond-false, cond_both, cases_Bool, cases_eq, eq-eqb, eqb-true, lt-leb, le-leb, ne_eqb, and_left, and_right, and_from, not_from_true, not_from_false}
 use Rattle.std.proofs.lemmas.Bool.Decides.{nat_tests}
 use Rattle.market.specs.declared.quote.QuoteSide.{QuoteSide}
@@ -7,9 +7,10 @@ use Rattle.market.specs.declared.quote.QuoteSide.TheVariants.{Bid, Offer}
 use Rattle.market.specs.declared.quote.Level.{Level}
 use Rattle.market.specs.declared.quote.MarketFault.{MarketFault}
 use Rattle.market.specs.declared.quote.MarketFault.TheVariants.{Meets, NinthLevel}
+use Rattle.market.specs.declared.terms.LevelTerms.{LevelTerms}
 use Rattle.market.specs.Sides.{opposite}
-use Rattle.market.specs.Levels.{Levels, replaced}
-use Rattle.venues.specs.Ordered.{first_of, in_range, better, ahead, ordered}
+use Rattle.market.specs.Levels.{Levels, replaced, best_of}
+use Rattle.venues.specs.Ordered.{in_range, better, ahead, ordered}
 use Rattle.venues.specs.Numbers.{within}
 use Rattle.venues.specs.Sizes.{size_at, ninth, blocked, in_front, with_size, set_answer, set_after, stands}
 use Rattle.venues.specs.LevelCalls.{level_call_from, level_call, level_answer, level_after, ShowsSize}
@@ -92,7 +93,7 @@ module _ (b : Levels) (k : ℕ) (s : QuoteSide) where
   left_by false false ls = refl
 
   pub call_left : (p n : ℕ) (other : List Level) → replaced b k s (set_after s p n (b k s) other) ≡ cond (is_ok (set_answer s p n (b k s) other)) (replaced b k s (with_size s p n (b k s))) b
-  call_left p n other = left_by (blocked s p n (first_of other)) (ninth p n (b k s)) (with_size s p n (b k s))
+  call_left p n other = left_by (blocked s p n (best_of other)) (ninth p n (b k s)) (with_size s p n (b k s))
 
 within_is : (low high n m : ℕ) → within low high (pos n) ≡ Some m → m ≡ n
 within_is low high n m = cond_both (leb low n && leb n high) (Some n) None (λ x. x ≡ Some m → m ≡ n) (λ _ e. cc) (λ _ e. absurd (let z : ◌≡◌ {A = ℕ} 0 1 = cc in omega arith))
@@ -109,10 +110,10 @@ module _ (b : Levels) (s : QuoteSide) (fine : (k : ℕ) → ordered s (b k s) �
   from_shown (Some x) (Some y) None ex ey ez ok = absurd (let w : ◌≡◌ {A = ℕ} 0 1 = cc in omega arith)
   from_shown (Some x) (Some y) (Some z) ex ey ez ok = rw (ex x refl, ey y refl, ez z refl) (call_shown (rw (ex x refl, ey y refl, ez z refl) at ok))
 
-pub level_shows : (last : ℕ) (b a : Levels) (s : QuoteSide) (series price size : ℤ) → ((k : ℕ) → ordered s (b k s) ≡ true) → level_answer b s (level_call last series price size) ≡ Ok tt → a ≡ level_after b s (level_call last series price size) → ShowsSize b a series s price size
-level_shows last b a s series price size fine ok after k p n q ek ep en =
-    ap (λ c. size_at (c k s) q) after
-    ∙ from_shown b s fine k p n q (within 1 65534 price) (within 0 1000000 size) (within 0 last series)
+pub level_shows : (last : ℕ) (b a : Levels) (x : LevelTerms) → ((k : ℕ) → ordered x.side (b k x.side) ≡ true) → level_answer b x.side (level_call last x) ≡ Ok tt → a ≡ level_after b x.side (level_call last x) → ShowsSize b a x
+level_shows last b a x fine ok after k p n q ek ep en =
+    ap (λ c. size_at (c k x.side) q) after
+    ∙ from_shown b x.side fine k p n q (within 1 65534 x.price) (within 0 1000000 x.size) (within 0 last x.series)
     (λ m e. within_is 1 65534 p m (ap (within 1 65534) (sym ep) ∙ e)) (λ m e. within_is 0 1000000 n m (ap (within 0 1000000) (sym en) ∙ e)) (λ m e. within_is 0 last k m (ap (within 0 last) (sym ek) ∙ e)) ok
 
 -- the answer and the list where a level is no ninth

@@ -9,7 +9,8 @@ use Rattle.market.specs.declared.quote.MarketFault.{MarketFault}
 use Rattle.market.specs.declared.quote.MarketFault.TheVariants.{Meets, NinthLevel}
 use Rattle.market.specs.Sides.{opposite}
 use Rattle.venues.specs.SeriesDepths.{one_side}
-use Rattle.venues.specs.Ordered.{in_range, apart, better, ahead, ordered, first_of}
+use Rattle.market.specs.Levels.{best_of}
+use Rattle.venues.specs.Ordered.{in_range, apart, better, ahead, ordered}
 use Rattle.venues.specs.Sizes.{in_front, with_size, ninth, meets, blocked, set_answer, set_after}
 use Rattle.venues.specs.Ranks.{head_in, head_ahead, tail_ordered, ordered_cons, bids_below, offers_above, one_bid, one_offer}
 
@@ -67,33 +68,33 @@ offer_clear : (b : Option Level) (p n : ℕ) → meets Offer p b ≡ false → a
 offer_clear None p n h = refl
 offer_clear (Some x) p n h = grind (arith, nat_tests)
 
-pub bids_sized : (p n : ℕ) (ls : List Level) (o : Option Level) → ordered Bid ls ≡ true → apart (first_of ls) o ≡ true → (eqb n 0 ≡ false → meets Bid p o ≡ false) → apart (first_of (with_size Bid p n ls)) o ≡ true
-bids_sized p n [] o r h m = front_both (λ xs. apart (first_of xs) o ≡ true) p n [] (λ _. h) (λ e. bid_clear p n o (m e))
+pub bids_sized : (p n : ℕ) (ls : List Level) (o : Option Level) → ordered Bid ls ≡ true → apart (best_of ls) o ≡ true → (eqb n 0 ≡ false → meets Bid p o ≡ false) → apart (best_of (with_size Bid p n ls)) o ≡ true
+bids_sized p n [] o r h m = front_both (λ xs. apart (best_of xs) o ≡ true) p n [] (λ _. h) (λ e. bid_clear p n o (m e))
 bids_sized p n (l ∷ ls) o r h m =
-    sized_both (λ xs. apart (first_of xs) o ≡ true) Bid p n l ls (λ _. h)
-    (λ _ _. front_both (λ xs. apart (first_of xs) o ≡ true) p n ls (λ _. bids_below l ls o (head_ahead Bid l ls r) h) (λ e. bid_clear p n o (m e)))
-    (λ _ _. front_both (λ xs. apart (first_of xs) o ≡ true) p n (l ∷ ls) (λ _. h) (λ e. bid_clear p n o (m e)))
+    sized_both (λ xs. apart (best_of xs) o ≡ true) Bid p n l ls (λ _. h)
+    (λ _ _. front_both (λ xs. apart (best_of xs) o ≡ true) p n ls (λ _. bids_below l ls o (head_ahead Bid l ls r) h) (λ e. bid_clear p n o (m e)))
+    (λ _ _. front_both (λ xs. apart (best_of xs) o ≡ true) p n (l ∷ ls) (λ _. h) (λ e. bid_clear p n o (m e)))
 
-pub offers_sized : (p n : ℕ) (ls : List Level) (b : Option Level) → ordered Offer ls ≡ true → apart b (first_of ls) ≡ true → (eqb n 0 ≡ false → meets Offer p b ≡ false) → apart b (first_of (with_size Offer p n ls)) ≡ true
-offers_sized p n [] b r h m = front_both (λ xs. apart b (first_of xs) ≡ true) p n [] (λ _. h) (λ e. offer_clear b p n (m e))
+pub offers_sized : (p n : ℕ) (ls : List Level) (b : Option Level) → ordered Offer ls ≡ true → apart b (best_of ls) ≡ true → (eqb n 0 ≡ false → meets Offer p b ≡ false) → apart b (best_of (with_size Offer p n ls)) ≡ true
+offers_sized p n [] b r h m = front_both (λ xs. apart b (best_of xs) ≡ true) p n [] (λ _. h) (λ e. offer_clear b p n (m e))
 offers_sized p n (l ∷ ls) b r h m =
-    sized_both (λ xs. apart b (first_of xs) ≡ true) Offer p n l ls (λ _. h)
-    (λ _ _. front_both (λ xs. apart b (first_of xs) ≡ true) p n ls (λ _. offers_above b l ls (head_ahead Offer l ls r) h) (λ e. offer_clear b p n (m e)))
-    (λ _ _. front_both (λ xs. apart b (first_of xs) ≡ true) p n (l ∷ ls) (λ _. h) (λ e. offer_clear b p n (m e)))
+    sized_both (λ xs. apart b (best_of xs) ≡ true) Offer p n l ls (λ _. h)
+    (λ _ _. front_both (λ xs. apart b (best_of xs) ≡ true) p n ls (λ _. offers_above b l ls (head_ahead Offer l ls r) h) (λ e. offer_clear b p n (m e)))
+    (λ _ _. front_both (λ xs. apart b (best_of xs) ≡ true) p n (l ∷ ls) (λ _. h) (λ e. offer_clear b p n (m e)))
 
 -- what a level call answers and leaves, as it meets the other side or not
 module _ (s : QuoteSide) (p n : ℕ) (own other : List Level) where
-  pub blocked_answer : blocked s p n (first_of other) ≡ true → Err Meets ≡ set_answer s p n own other
-  blocked_answer e = sym (cond-true (blocked s p n (first_of other)) (Err Meets) (cond (ninth p n own) (Err NinthLevel) (Ok tt)) e)
+  pub blocked_answer : blocked s p n (best_of other) ≡ true → Err Meets ≡ set_answer s p n own other
+  blocked_answer e = sym (cond-true (blocked s p n (best_of other)) (Err Meets) (cond (ninth p n own) (Err NinthLevel) (Ok tt)) e)
 
-  pub blocked_after : blocked s p n (first_of other) ≡ true → own ≡ set_after s p n own other
-  blocked_after e = sym (cond-true (blocked s p n (first_of other)) own (cond (ninth p n own) own (with_size s p n own)) e)
+  pub blocked_after : blocked s p n (best_of other) ≡ true → own ≡ set_after s p n own other
+  blocked_after e = sym (cond-true (blocked s p n (best_of other)) own (cond (ninth p n own) own (with_size s p n own)) e)
 
-  pub free_answer : (r : Result (Unit {0}) MarketFault) → blocked s p n (first_of other) ≡ false → r ≡ cond (ninth p n own) (Err NinthLevel) (Ok tt) → r ≡ set_answer s p n own other
-  free_answer r e h = h ∙ sym (cond-false (blocked s p n (first_of other)) (Err Meets) (cond (ninth p n own) (Err NinthLevel) (Ok tt)) e)
+  pub free_answer : (r : Result (Unit {0}) MarketFault) → blocked s p n (best_of other) ≡ false → r ≡ cond (ninth p n own) (Err NinthLevel) (Ok tt) → r ≡ set_answer s p n own other
+  free_answer r e h = h ∙ sym (cond-false (blocked s p n (best_of other)) (Err Meets) (cond (ninth p n own) (Err NinthLevel) (Ok tt)) e)
 
-  pub free_after : (ms : List Level) → blocked s p n (first_of other) ≡ false → ms ≡ cond (ninth p n own) own (with_size s p n own) → ms ≡ set_after s p n own other
-  free_after ms e h = h ∙ sym (cond-false (blocked s p n (first_of other)) own (cond (ninth p n own) own (with_size s p n own)) e)
+  pub free_after : (ms : List Level) → blocked s p n (best_of other) ≡ false → ms ≡ cond (ninth p n own) own (with_size s p n own) → ms ≡ set_after s p n own other
+  free_after ms e h = h ∙ sym (cond-false (blocked s p n (best_of other)) own (cond (ninth p n own) own (with_size s p n own)) e)
 
 -- not blocked: with a size, it does not meet the other side
 pub free_meets : (s : QuoteSide) (p n : ℕ) (o : Option Level) → blocked s p n o ≡ false → eqb n 0 ≡ false → meets s p o ≡ false

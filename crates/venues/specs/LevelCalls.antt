@@ -1,8 +1,9 @@
 -- A level call: the size at one price of a series and side.
-use Rattle.std.specs.Prelude.{◌≡◌, ℕ, cond, ℤ, pos, is_ok, Some, None, Ok, Err, Option, Result, ◌==◌}
+use Rattle.std.specs.Prelude.{◌≡◌, ℕ, cond, pos, is_ok, Some, None, Ok, Err, Option, Result, ◌==◌}
 use Rattle.market.specs.declared.quote.QuoteSide.{QuoteSide}
 use Rattle.market.specs.declared.quote.MarketFault.{MarketFault}
 use Rattle.market.specs.declared.quote.MarketFault.TheVariants.{Range, Series}
+use Rattle.market.specs.declared.terms.LevelTerms.{LevelTerms}
 use Rattle.market.specs.Sides.{opposite}
 use Rattle.market.specs.Levels.{Levels, replaced}
 use Rattle.venues.specs.Numbers.{within}
@@ -16,8 +17,8 @@ level_call_from (Some p) (Some n) None = Err Series
 level_call_from (Some p) (Some n) (Some k) = Ok (k, p, n)
 
 -- the numbers of a call in a market whose series are 0 to last
-abbrev pub level_call : ℕ → ℤ → ℤ → ℤ → Result (ℕ × ℕ × ℕ) MarketFault
-level_call last series price size = level_call_from (within 1 65534 price) (within 0 1000000 size) (within 0 last series)
+abbrev pub level_call : ℕ → LevelTerms → Result (ℕ × ℕ × ℕ) MarketFault
+level_call last x = level_call_from (within 1 65534 x.price) (within 0 1000000 x.size) (within 0 last x.series)
 
 abbrev pub level_answer : Levels → QuoteSide → Result (ℕ × ℕ × ℕ) MarketFault → Result (Unit {0}) MarketFault
 level_answer b s (Err e) = Err e
@@ -29,5 +30,5 @@ level_after b s (Err e) = b
 level_after b s (Ok c) = cond (is_ok (set_answer s c.1 c.2 (b c.0 s) (b c.0 (opposite s)))) (replaced b c.0 s (with_size s c.1 c.2 (b c.0 s))) b
 
 -- at every price of the series and side, the market a shows the size of the call if that price is the call's, and else what b showed
-abbrev pub ShowsSize : Levels → Levels → ℤ → QuoteSide → ℤ → ℤ → Type 0
-ShowsSize b a series s price size = (k p n q : ℕ) → series ≡ pos k → price ≡ pos p → size ≡ pos n → size_at (a k s) q ≡ cond (q == p) n (size_at (b k s) q)
+abbrev pub ShowsSize : Levels → Levels → LevelTerms → Type 0
+ShowsSize b a x = (k p n q : ℕ) → x.series ≡ pos k → x.price ≡ pos p → x.size ≡ pos n → size_at (a k x.side) q ≡ cond (q == p) n (size_at (b k x.side) q)

@@ -3,11 +3,7 @@ use Rattle.std.specs.Prelude.{◌≡◌, ℕ, Bool, true, ◌&&◌, List, [], �
 use Rattle.market.specs.declared.quote.QuoteSide.{QuoteSide}
 use Rattle.market.specs.declared.quote.QuoteSide.TheVariants.{Bid, Offer}
 use Rattle.market.specs.declared.quote.Level.{Level}
-use Rattle.market.specs.Levels.{Levels}
-
-abbrev pub first_of : List Level → Option Level
-first_of [] = None
-first_of (l ∷ ls) = Some l
+use Rattle.market.specs.Levels.{Levels, best_of}
 
 abbrev pub in_range : Level → Bool
 in_range l = nat_le 1 l.price && (nat_le l.price 65534 && (nat_le 1 l.size && nat_le l.size 1000000))
@@ -40,4 +36,4 @@ apart (Some b) (Some o) = nat_lt b.price o.price
 
 -- no series has its best bid at or above its best offer
 abbrev pub Uncrossed : Levels → Type 0
-Uncrossed b = (k : ℕ) → apart (first_of (b k Bid)) (first_of (b k Offer)) ≡ true
+Uncrossed b = (k : ℕ) → apart (best_of (b k Bid)) (best_of (b k Offer)) ≡ true

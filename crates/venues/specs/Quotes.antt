@@ -4,6 +4,7 @@ use Rattle.market.specs.declared.quote.Level.{Level}
 use Rattle.market.specs.declared.quote.TwoSided.{TwoSided}
 use Rattle.market.specs.declared.quote.MarketFault.{MarketFault}
 use Rattle.market.specs.declared.quote.MarketFault.TheVariants.{Range, Series, Crossed, Take}
+use Rattle.market.specs.declared.terms.QuoteTerms.{QuoteTerms}
 use Rattle.market.specs.Sides.{side_of}
 use Rattle.market.specs.Levels.{Levels, less}
 use Rattle.venues.specs.Ordered.{ok_level, apart}
@@ -47,8 +48,8 @@ quote_from None (Ok b) (Ok o) = Err Series
 quote_from (Some k) (Ok b) (Ok o) = cond (apart b o) (Ok (k, record { bid = b; offer = o })) (Err Crossed)
 
 -- the numbers of a quote in a market whose series are 0 to last
-abbrev pub quote_of : ℕ → ℤ → ℤ → ℤ → ℤ → ℤ → Result (ℕ × TwoSided Level) MarketFault
-quote_of last series bid_price bid_size offer_price offer_size = quote_from (within 0 last series) (level_of bid_price bid_size) (level_of offer_price offer_size)
+abbrev pub quote_of : ℕ → QuoteTerms → Result (ℕ × TwoSided Level) MarketFault
+quote_of last x = quote_from (within 0 last x.series) (level_of x.bid_price x.bid_size) (level_of x.offer_price x.offer_size)
 
 abbrev pub quote_answer : Result (ℕ × TwoSided Level) MarketFault → Result (Unit {0}) MarketFault
 quote_answer (Ok p) = Ok tt

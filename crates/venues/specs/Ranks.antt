@@ -7,8 +7,8 @@ use Rattle.std.proofs.lemmas.Bool.Decides.{nat_tests}
 use Rattle.market.specs.declared.quote.QuoteSide.{QuoteSide}
 use Rattle.market.specs.declared.quote.QuoteSide.TheVariants.{Bid, Offer}
 use Rattle.market.specs.declared.quote.Level.{Level}
-use Rattle.market.specs.Levels.{NotWorse, Ranked, can_take, less, less_first, taken}
-use Rattle.venues.specs.Ordered.{first_of, in_range, apart, better, ahead, ordered}
+use Rattle.market.specs.Levels.{NotWorse, Ranked, can_take, less, less_first, taken, best_of}
+use Rattle.venues.specs.Ordered.{in_range, apart, better, ahead, ordered}
 use Rattle.venues.specs.SeriesDepths.{one_side}
 use Rattle.venues.specs.Tables.{in_range_lem}
 
@@ -54,12 +54,12 @@ ordered_taken s ls n h =
     (λ l ms e _ _. tail_ordered s l ms (ap (ordered s) (sym e) ∙ h))
     (λ l ms e _ b. let r = ap (ordered s) (sym e) ∙ h in ordered_cons s (less l n) ms (cut_in l n b (head_in s l ms r)) (head_ahead s l ms r) (tail_ordered s l ms r))
 
-pub bids_below : (l : Level) (ms : List Level) (o : Option Level) → ahead Bid l.price ms ≡ true → apart (Some l) o ≡ true → apart (first_of ms) o ≡ true
+pub bids_below : (l : Level) (ms : List Level) (o : Option Level) → ahead Bid l.price ms ≡ true → apart (Some l) o ≡ true → apart (best_of ms) o ≡ true
 bids_below l [] o a h = refl
 bids_below l (m ∷ ms) None a h = refl
 bids_below l (m ∷ ms) (Some x) a h = grind (arith, nat_tests)
 
-pub offers_above : (b : Option Level) (l : Level) (ms : List Level) → ahead Offer l.price ms ≡ true → apart b (Some l) ≡ true → apart b (first_of ms) ≡ true
+pub offers_above : (b : Option Level) (l : Level) (ms : List Level) → ahead Offer l.price ms ≡ true → apart b (Some l) ≡ true → apart b (best_of ms) ≡ true
 offers_above None l ms a h = refl
 offers_above (Some x) l [] a h = refl
 offers_above (Some x) l (m ∷ ms) a h = grind (arith, nat_tests)
@@ -72,17 +72,17 @@ same_offer : (b : Option Level) (l m : Level) → l.price ≡ m.price → apart 
 same_offer None l m e h = refl
 same_offer (Some x) l m e h = grind (arith, nat_tests)
 
-pub apart_bids_taken : (ls : List Level) (o : Option Level) (n : ℕ) → ordered Bid ls ≡ true → apart (first_of ls) o ≡ true → apart (first_of (taken ls n)) o ≡ true
+pub apart_bids_taken : (ls : List Level) (o : Option Level) (n : ℕ) → ordered Bid ls ≡ true → apart (best_of ls) o ≡ true → apart (best_of (taken ls n)) o ≡ true
 apart_bids_taken ls o n r h =
-    taken_both (λ xs. apart (first_of xs) o ≡ true) n ls h
-    (λ l ms e _ _. bids_below l ms o (head_ahead Bid l ms (ap (ordered Bid) (sym e) ∙ r)) (ap (λ xs. apart (first_of xs) o) (sym e) ∙ h))
-    (λ l ms e _ _. same_bid l (less l n) o refl (ap (λ xs. apart (first_of xs) o) (sym e) ∙ h))
+    taken_both (λ xs. apart (best_of xs) o ≡ true) n ls h
+    (λ l ms e _ _. bids_below l ms o (head_ahead Bid l ms (ap (ordered Bid) (sym e) ∙ r)) (ap (λ xs. apart (best_of xs) o) (sym e) ∙ h))
+    (λ l ms e _ _. same_bid l (less l n) o refl (ap (λ xs. apart (best_of xs) o) (sym e) ∙ h))
 
-pub apart_offers_taken : (b : Option Level) (ls : List Level) (n : ℕ) → ordered Offer ls ≡ true → apart b (first_of ls) ≡ true → apart b (first_of (taken ls n)) ≡ true
+pub apart_offers_taken : (b : Option Level) (ls : List Level) (n : ℕ) → ordered Offer ls ≡ true → apart b (best_of ls) ≡ true → apart b (best_of (taken ls n)) ≡ true
 apart_offers_taken b ls n r h =
-    taken_both (λ xs. apart b (first_of xs) ≡ true) n ls h
-    (λ l ms e _ _. offers_above b l ms (head_ahead Offer l ms (ap (ordered Offer) (sym e) ∙ r)) (ap (λ xs. apart b (first_of xs)) (sym e) ∙ h))
-    (λ l ms e _ _. same_offer b l (less l n) refl (ap (λ xs. apart b (first_of xs)) (sym e) ∙ h))
+    taken_both (λ xs. apart b (best_of xs) ≡ true) n ls h
+    (λ l ms e _ _. offers_above b l ms (head_ahead Offer l ms (ap (ordered Offer) (sym e) ∙ r)) (ap (λ xs. apart b (best_of xs)) (sym e) ∙ h))
+    (λ l ms e _ _. same_offer b l (less l n) refl (ap (λ xs. apart b (best_of xs)) (sym e) ∙ h))
 
 -- one side changed, the other kept
 module _ (f g : QuoteSide → List Level) (ls : List Level) where

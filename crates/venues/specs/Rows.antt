@@ -1,6 +1,6 @@
 -- The market of a table of series.
-use Rattle.std.specs.Prelude.{◌≡◌, ℕ, zero, suc, ◌<◌, ◌≤◌, true, cond, List, [], ◌∷◌, map, length, get_or, replicate, Some, None, ◌==◌, slice_index_or, slice_set, refl}
-use Rattle.std.proofs.Common.{sym, ap, ◌∙◌, ⊎_elim, arith}
+use Rattle.std.specs.Prelude.{◌≡◌, ℕ, zero, suc, ◌<◌, ◌≤◌, true, cond, List, [], ◌∷◌, map, length, get_or, replicate, ◌==◌, slice_index_or, slice_set, refl}
+use Rattle.std.proofs.Common.{sym, ap, ◌∙◌, ⊎_elim}
 use Rattle.std.proofs.Math.Path.{fun_ext}
 use Rattle.std.proofs.lemmas.List.{get_or_past, get_or-map, length-map, map-set}
 use Rattle.std.proofs.lemmas.Bool.{cases_eq, eq-eqb, ne_eqb}
@@ -8,8 +8,8 @@ use Rattle.market.specs.declared.quote.QuoteSide.{QuoteSide}
 use Rattle.market.specs.declared.quote.QuoteSide.TheVariants.{Bid, Offer}
 use Rattle.market.specs.declared.quote.Level.{Level}
 use Rattle.venues.specs.declared.series.SeriesDepth.{SeriesDepth}
-use Rattle.market.specs.Levels.{Levels, best_of, replaced}
-use Rattle.venues.specs.Ordered.{first_of, ordered, Uncrossed}
+use Rattle.market.specs.Levels.{Levels, replaced}
+use Rattle.venues.specs.Ordered.{ordered, Uncrossed}
 use Rattle.venues.specs.SeriesDepths.{no_depth, series_levels, one_side}
 use Rattle.venues.specs.Ladders.{rows_levels}
 use Rattle.venues.specs.Tables.{get_d_after}
@@ -53,12 +53,3 @@ pub rows_new : (n k : ℕ) (r : SeriesDepth) → series_levels r ≡ no_depth �
 rows_new zero k r e = refl
 rows_new (suc n) zero r e = e
 rows_new (suc n) (suc k) r e = rows_new n k r e
-
--- the first level as a price and a size
-pub best_some : (ls : List Level) (l : Level) → first_of ls ≡ Some l → best_of ls ≡ Some (l.price, l.size)
-best_some [] l e = let z : ◌≡◌ {A = ℕ} 0 1 = cc in absurd (omega arith)
-best_some (m ∷ ms) l e = let s : m ≡ l = cc in ap (λ x. Some (x.price, x.size)) s
-
-pub best_none : (ls : List Level) → first_of ls ≡ None → best_of ls ≡ None
-best_none [] e = refl
-best_none (m ∷ ms) e = let z : ◌≡◌ {A = ℕ} 0 1 = cc in absurd (omega arith)

@@ -5,7 +5,8 @@ use Rattle.market.specs.declared.quote.QuoteSide.TheVariants.{Bid, Offer}
 use Rattle.market.specs.declared.quote.Level.{Level}
 use Rattle.market.specs.declared.quote.MarketFault.{MarketFault}
 use Rattle.market.specs.declared.quote.MarketFault.TheVariants.{Meets, NinthLevel}
-use Rattle.venues.specs.Ordered.{first_of, better}
+use Rattle.market.specs.Levels.{best_of}
+use Rattle.venues.specs.Ordered.{better}
 
 -- the size shown at the price p, 0 if none is
 abbrev pub size_at : List Level → ℕ → ℕ
@@ -38,10 +39,10 @@ with_size s p n (l ∷ ls) = cond (better s l.price p) (l ∷ with_size s p n ls
 
 -- what becomes of a side, by its own list and the other's
 abbrev pub set_answer : QuoteSide → ℕ → ℕ → List Level → List Level → Result (Unit {0}) MarketFault
-set_answer s p n own other = cond (blocked s p n (first_of other)) (Err Meets) (cond (ninth p n own) (Err NinthLevel) (Ok tt))
+set_answer s p n own other = cond (blocked s p n (best_of other)) (Err Meets) (cond (ninth p n own) (Err NinthLevel) (Ok tt))
 
 abbrev pub set_after : QuoteSide → ℕ → ℕ → List Level → List Level → List Level
-set_after s p n own other = cond (blocked s p n (first_of other)) own (cond (ninth p n own) own (with_size s p n own))
+set_after s p n own other = cond (blocked s p n (best_of other)) own (cond (ninth p n own) own (with_size s p n own))
 
 -- how many levels are better than a price, and whether it comes right after them
 abbrev pub place_of : QuoteSide → ℕ → List Level → ℕ

@@ -11,8 +11,8 @@ use Rattle.market.specs.declared.quote.Level.{Level}
 use Rattle.market.specs.declared.quote.MarketFault.{MarketFault}
 use Rattle.market.specs.declared.quote.MarketFault.TheVariants.{Take}
 use Rattle.market.specs.declared.quote.TwoSided.{TwoSided}
-use Rattle.market.specs.Levels.{no_levels, InRange, Ranked, can_take, less, less_first, take_answer, replaced, taken_at}
-use Rattle.venues.specs.Ordered.{first_of, in_range, ok_level, apart, Uncrossed}
+use Rattle.market.specs.Levels.{no_levels, InRange, Ranked, can_take, less, less_first, take_answer, replaced, taken_at, best_of}
+use Rattle.venues.specs.Ordered.{in_range, ok_level, apart, Uncrossed}
 use Rattle.market.specs.Sides.{same_side, side_of, with_side}
 use Rattle.venues.specs.Quotes.{no_quote, as_list, table_levels, sound, quoted_at, rest_of, taken_level}
 
@@ -131,7 +131,7 @@ module _ (qs : List (TwoSided Level)) (k : ℕ) (s : QuoteSide) (n : ℕ) where
       let t = taken_ok (side_of (slice_index_or qs k no_quote) s) n r e in
       table_with qs k s r h ∙ ap (replaced (table_levels qs) k s) (sym t.1 ∙ sym (cond-true (can_take (table_levels qs k s) n) (less_first (table_levels qs k s) n) (table_levels qs k s) t.0))
 
-first_as_list : (o : Option Level) → first_of (as_list o) ≡ o
+first_as_list : (o : Option Level) → best_of (as_list o) ≡ o
 first_as_list None = refl
 first_as_list (Some l) = refl
 
@@ -140,4 +140,4 @@ table_uncrossed qs ok k =
     let q = get_or qs k no_quote in
     let p = and_parts (ok_level q.bid) (ok_level q.offer && apart q.bid q.offer) (ok k) in
     let a = and_parts (ok_level q.offer) (apart q.bid q.offer) p.1 in
-    ap (λ o. apart o (first_of (as_list q.offer))) (first_as_list q.bid) ∙ ap (apart q.bid) (first_as_list q.offer) ∙ a.1
+    ap (λ o. apart o (best_of (as_list q.offer))) (first_as_list q.bid) ∙ ap (apart q.bid) (first_as_list q.offer) ∙ a.1

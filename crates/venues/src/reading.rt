@@ -6,6 +6,7 @@ ghost use Rattle.venues.specs.Quotes.{level_of, quote_of, sound};
 ghost use Rattle.venues.specs.LevelCalls.{level_call};
 
 use market::quote::{Level, MarketFault, TwoSided};
+use market::terms::{LevelTerms, QuoteTerms};
 
 // A number of low to high.
 fn ranged(x: i32, low: u32, high: u32) -> Option<u32>
@@ -52,18 +53,14 @@ fn is_apart(bid: Option<Level>, offer: Option<Level>) -> bool
 // The series of a quote and its two sides, in a market whose series are 0 to last.
 pub(crate) fn read_quote(
     last: u32,
-    series: i32,
-    bid_price: i32,
-    bid_size: i32,
-    offer_price: i32,
-    offer_size: i32,
+    terms: QuoteTerms,
 ) -> Result<(u32, TwoSided<Level>), MarketFault>
-    ensures value { result ≡ quote_of last series bid_price bid_size offer_price offer_size }
+    ensures value { result ≡ quote_of last terms }
     ensures sound { IfOk result (λ p. (p.0 ≤ last) × (sound p.1 ≡ true)) }
 {
-    let bid = read_level(bid_price, bid_size)?;
-    let offer = read_level(offer_price, offer_size)?;
-    let Some(series) = ranged(series, 0, last) else {
+    let bid = read_level(terms.bid_price, terms.bid_size)?;
+    let offer = read_level(terms.offer_price, terms.offer_size)?;
+    let Some(series) = ranged(terms.series, 0, last) else {
         return Err(MarketFault::Series);
     };
     if is_apart(bid, offer) {
@@ -74,22 +71,17 @@ pub(crate) fn read_quote(
 }
 
 // The series, price and size of a level call, in a market whose series are 0 to last.
-pub(crate) fn read_level_call(
-    last: u32,
-    series: i32,
-    price: i32,
-    size: i32,
-) -> Result<(u32, u16, u32), MarketFault>
-    ensures value { result ≡ level_call last series price size }
+pub(crate) fn read_level_call(last: u32, terms: LevelTerms) -> Result<(u32, u16, u32), MarketFault>
+    ensures value { result ≡ level_call last terms }
     ensures bounds { IfOk result (λ c. (c.0 ≤ last) × (1 ≤ c.1) × (c.1 ≤ 65534) × (c.2 ≤ 1000000)) }
 {
-    let Some(price) = ranged(price, 1, 65534) else {
+    let Some(price) = ranged(terms.price, 1, 65534) else {
         return Err(MarketFault::Range);
     };
-    let Some(size) = ranged(size, 0, 1_000_000) else {
+    let Some(size) = ranged(terms.size, 0, 1_000_000) else {
         return Err(MarketFault::Range);
     };
-    let Some(series) = ranged(series, 0, last) else {
+    let Some(series) = ranged(terms.series, 0, last) else {
         return Err(MarketFault::Series);
     };
     Ok((series, price as u16, size))

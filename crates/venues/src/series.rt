@@ -2,7 +2,8 @@
 ghost use Rattle.std.specs.Prelude.{◌≡◌, true};
 ghost use Rattle.market.specs.declared.quote.QuoteSide.TheVariants.{Bid, Offer};
 ghost use Rattle.venues.specs.Depths.{depth_levels};
-ghost use Rattle.venues.specs.Ordered.{first_of, ordered, apart};
+ghost use Rattle.market.specs.Levels.{best_of};
+ghost use Rattle.venues.specs.Ordered.{ordered, apart};
 
 use crate::depth::Depth;
 
@@ -12,7 +13,7 @@ pub struct SeriesDepth {
     offers: Depth,
     ghost falling: { ordered Bid (depth_levels bids) ≡ true },
     ghost rising: { ordered Offer (depth_levels offers) ≡ true },
-    ghost clear: { apart (first_of (depth_levels bids)) (first_of (depth_levels offers)) ≡ true },
+    ghost clear: { apart (best_of (depth_levels bids)) (best_of (depth_levels offers)) ≡ true },
 }
 
 mod methods;

@@ -9,6 +9,7 @@ ghost use Rattle.venues.specs.Tables.{ranked_quote, table_past};
 use crate::board::{Board, SERIES};
 use crate::reading::read_quote;
 use market::quote::{Level, MarketFault, QuoteSide, TwoSided};
+use market::terms::QuoteTerms;
 use market::trading::Market;
 
 impl Board {
@@ -24,26 +25,12 @@ impl Board {
     }
 
     // Replaces both sides of a series' quote; the price words 0 and 65535 mean no price.
-    pub fn quote(
-        &mut self,
-        series: i32,
-        bid_price: i32,
-        bid_size: i32,
-        offer_price: i32,
-        offer_size: i32,
-    ) -> Result<(), MarketFault>
-        ensures answer { result ≡ quote_answer (quote_of 255 series bid_price bid_size offer_price offer_size) }
-        ensures after { board_levels self.new ≡ quoted_levels (board_levels self.old) (quote_of 255 series bid_price bid_size offer_price offer_size) }
+    pub fn quote(&mut self, terms: QuoteTerms) -> Result<(), MarketFault>
+        ensures answer { result ≡ quote_answer (quote_of 255 terms) }
+        ensures after { board_levels self.new ≡ quoted_levels (board_levels self.old) (quote_of 255 terms) }
         ensures uncrossed { Uncrossed (board_levels self.new) }
     {
-        let (series, quote) = read_quote(
-            255,
-            series,
-            bid_price,
-            bid_size,
-            offer_price,
-            offer_size,
-        )?;
+        let (series, quote) = read_quote(255, terms)?;
         self.quotes[series as usize] = quote;
         Ok(())
     }
@@ -77,12 +64,11 @@ impl Market for Board {
 
     ghost past = { λ m k s h. table_past m.quotes k s (rw m.size h) };
 
-    fn best(&self, series: usize, side: QuoteSide) -> Option<(u16, u32)> {
+    fn best(&self, series: usize, side: QuoteSide) -> Option<Level> {
         if series >= SERIES {
             return None;
         }
-        let level = self.quotes[series].side(side)?;
-        Some((level.price, level.size))
+        self.quotes[series].side(side)
     }
 
     fn take(&mut self, series: usize, side: QuoteSide, n: u32) -> Result<(), MarketFault> {

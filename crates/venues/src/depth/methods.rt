@@ -3,8 +3,8 @@ ghost use Rattle.std.specs.Prelude.{◌≡◌, ◌<◌, ◌≤◌, true, [], len
 ghost use Rattle.std.specs.List.{insert, remove};
 ghost use Rattle.market.specs.declared.quote.MarketFault.TheVariants.{NinthLevel};
 ghost use Rattle.venues.specs.Depths.{depth_levels};
-ghost use Rattle.market.specs.Levels.{take_answer, taken};
-ghost use Rattle.venues.specs.Ordered.{first_of, better, ordered};
+ghost use Rattle.market.specs.Levels.{take_answer, taken, best_of};
+ghost use Rattle.venues.specs.Ordered.{better, ordered};
 ghost use Rattle.venues.specs.Sizes.{found_at, ninth, with_size};
 
 use crate::depth::Depth;
@@ -21,7 +21,7 @@ impl Depth {
     }
 
     pub(crate) fn first(&self) -> Option<Level>
-        ensures { result ≡ first_of (depth_levels self.now) }
+        ensures { result ≡ best_of (depth_levels self.now) }
     {
         if self.count == 0 {
             None

@@ -10,7 +10,8 @@ ghost use Rattle.venues.specs.Rows.{rows_ordered, row_past};
 use crate::ladder::{Ladder, SERIES};
 use crate::reading::read_level_call;
 use crate::series::SeriesDepth;
-use market::quote::{MarketFault, QuoteSide};
+use market::quote::{Level, MarketFault, QuoteSide};
+use market::terms::LevelTerms;
 use market::trading::Market;
 
 impl Ladder {
@@ -24,22 +25,16 @@ impl Ladder {
 
     // Sets the size at one price of a series and side and leaves all other prices as they were; with size 0, the price
     // leaves.
-    pub fn level(
-        &mut self,
-        series: i32,
-        side: QuoteSide,
-        price: i32,
-        size: i32,
-    ) -> Result<(), MarketFault>
-        ensures answer { result ≡ level_answer (ladder_levels self.old) side (level_call 15 series price size) }
-        ensures after { ladder_levels self.new ≡ level_after (ladder_levels self.old) side (level_call 15 series price size) }
-        ensures shown { result ≡ Ok tt → ShowsSize (ladder_levels self.old) (ladder_levels self.new) series side price size }
+    pub fn level(&mut self, terms: LevelTerms) -> Result<(), MarketFault>
+        ensures answer { result ≡ level_answer (ladder_levels self.old) terms.side (level_call 15 terms) }
+        ensures after { ladder_levels self.new ≡ level_after (ladder_levels self.old) terms.side (level_call 15 terms) }
+        ensures shown { result ≡ Ok tt → ShowsSize (ladder_levels self.old) (ladder_levels self.new) terms }
         ensures uncrossed { Uncrossed (ladder_levels self.new) }
     {
-        let (series, price, size) = read_level_call(15, series, price, size)?;
+        let (series, price, size) = read_level_call(15, terms)?;
         let at = series as usize;
         let mut depth = self.series[at];
-        let answer = depth.level(side, price, size);
+        let answer = depth.level(terms.side, price, size);
         self.series[at] = depth;
         answer
     }
@@ -54,12 +49,11 @@ impl Market for Ladder {
 
     ghost past = { λ m k s h. row_past m.series k s (rw m.size h) };
 
-    fn best(&self, series: usize, side: QuoteSide) -> Option<(u16, u32)> {
+    fn best(&self, series: usize, side: QuoteSide) -> Option<Level> {
         if series >= SERIES {
             return None;
         }
-        let level = self.series[series].first(side)?;
-        Some((level.price, level.size))
+        self.series[series].first(side)
     }
 
     fn take(&mut self, series: usize, side: QuoteSide, n: u32) -> Result<(), MarketFault> {

@@ -1,7 +1,6 @@
 // What is done with the depth of one series.
 ghost use Rattle.std.specs.Prelude.{◌≡◌, ◌≤◌};
-ghost use Rattle.market.specs.Levels.{take_answer, taken};
-ghost use Rattle.venues.specs.Ordered.{first_of};
+ghost use Rattle.market.specs.Levels.{take_answer, taken, best_of};
 ghost use Rattle.market.specs.Sides.{opposite};
 ghost use Rattle.venues.specs.Sizes.{blocked, set_answer, set_after};
 ghost use Rattle.venues.specs.SeriesDepths.{no_depth, series_levels, one_side};
@@ -21,7 +20,7 @@ impl SeriesDepth {
     }
 
     pub(crate) fn first(&self, side: QuoteSide) -> Option<Level>
-        ensures { result ≡ first_of (series_levels self.now side) }
+        ensures { result ≡ best_of (series_levels self.now side) }
     {
         match side {
             QuoteSide::Bid => self.bids.first(),

@@ -1,5 +1,4 @@
 use Rattle.std.proofs.Common.{◌<◌, length, set, ap, ◌∙◌, arith, length-set}
-use Rattle.std.proofs.lemmas.Int.{to_z-of_z}
 use Rattle.venues.specs.Quotes.{table_levels, quote_answer, quoted_levels}
 use Rattle.venues.specs.Tables.{table_set, sound_set, table_uncrossed}
 use Rattle.venues.proofs.board.Board.quote.Goals as goal
@@ -14,12 +13,7 @@ invariant_of-self c =
 pub returns : goal.returns
 returns c =
     let b = c.args.self.now in
-    let f0 = c.ranges.series in
-    let f1 = c.ranges.bid_price in
-    let f2 = c.ranges.bid_size in
-    let f3 = c.ranges.offer_price in
-    let f4 = c.ranges.offer_size in
-    let read = simp to_z-of_z at c.in_ok-series.ensures.value in
+    let read = c.in_ok-series.ensures.value in
     let low = c.in_ok-series.ensures.sound.0 in
     let within : c.in_ok-series.series < length b.quotes = omega arith in
     record {

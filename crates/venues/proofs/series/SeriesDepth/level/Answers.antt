@@ -1,7 +1,8 @@
 use Rattle.std.proofs.Common.{◌≡◌, true, sym, refl, ap, ◌∙◌}
 use Rattle.market.specs.declared.quote.QuoteSide.TheVariants.{Bid, Offer}
 use Rattle.venues.specs.Depths.{depth_levels}
-use Rattle.venues.specs.Ordered.{ordered, apart, first_of}
+use Rattle.market.specs.Levels.{best_of}
+use Rattle.venues.specs.Ordered.{ordered, apart}
 use Rattle.venues.specs.Sizes.{blocked}
 use Rattle.venues.specs.SeriesDepths.{series_levels}
 use Rattle.venues.specs.Ranks.{one_bid, one_offer}
@@ -33,7 +34,7 @@ invariant_of-self c =
     record {
       falling = left_both (λ ls. ordered Bid ls ≡ true) Bid c.args.price c.args.size (depth_levels r.bids) (depth_levels c.set.new.self) c.set.ensures.after r.falling (ordered_sized Bid c.args.price c.args.size (depth_levels r.bids) c.requires.price.0 c.requires.price.1 c.requires.size r.falling);
       rising = r.rising;
-      clear = left_both (λ ls. apart (first_of ls) (first_of (depth_levels r.offers)) ≡ true) Bid c.args.price c.args.size (depth_levels r.bids) (depth_levels c.set.new.self) c.set.ensures.after r.clear (bids_sized c.args.price c.args.size (depth_levels r.bids) (first_of (depth_levels r.offers)) r.falling r.clear (free_meets Bid c.args.price c.args.size (first_of (depth_levels r.offers)) free));
+      clear = left_both (λ ls. apart (best_of ls) (best_of (depth_levels r.offers)) ≡ true) Bid c.args.price c.args.size (depth_levels r.bids) (depth_levels c.set.new.self) c.set.ensures.after r.clear (bids_sized c.args.price c.args.size (depth_levels r.bids) (best_of (depth_levels r.offers)) r.falling r.clear (free_meets Bid c.args.price c.args.size (best_of (depth_levels r.offers)) free));
     }
 
 pub returns-then-is_blocked-2 : goal.returns-then-is_blocked-2
@@ -61,5 +62,5 @@ invariant_of-self-in-Offer c =
     record {
       falling = r.falling;
       rising = left_both (λ ls. ordered Offer ls ≡ true) Offer c.args.price c.args.size (depth_levels r.offers) (depth_levels c.set-in-Offer.new.self) c.set-in-Offer.ensures.after r.rising (ordered_sized Offer c.args.price c.args.size (depth_levels r.offers) c.requires.price.0 c.requires.price.1 c.requires.size r.rising);
-      clear = left_both (λ ls. apart (first_of (depth_levels r.bids)) (first_of ls) ≡ true) Offer c.args.price c.args.size (depth_levels r.offers) (depth_levels c.set-in-Offer.new.self) c.set-in-Offer.ensures.after r.clear (offers_sized c.args.price c.args.size (depth_levels r.offers) (first_of (depth_levels r.bids)) r.rising r.clear (free_meets Offer c.args.price c.args.size (first_of (depth_levels r.bids)) free));
+      clear = left_both (λ ls. apart (best_of (depth_levels r.bids)) (best_of ls) ≡ true) Offer c.args.price c.args.size (depth_levels r.offers) (depth_levels c.set-in-Offer.new.self) c.set-in-Offer.ensures.after r.clear (offers_sized c.args.price c.args.size (depth_levels r.offers) (best_of (depth_levels r.bids)) r.rising r.clear (free_meets Offer c.args.price c.args.size (best_of (depth_levels r.bids)) free));
     }

@@ -1,6 +1,7 @@
 use Rattle.std.proofs.Common.{refl, ap, ◌∙◌}
 use Rattle.market.specs.declared.quote.QuoteSide.TheVariants.{Bid, Offer}
-use Rattle.venues.specs.Ordered.{first_of, ordered, apart}
+use Rattle.market.specs.Levels.{best_of}
+use Rattle.venues.specs.Ordered.{ordered, apart}
 use Rattle.venues.specs.Depths.{depth_levels}
 use Rattle.venues.specs.SeriesDepths.{series_levels}
 use Rattle.venues.specs.Ranks.{ordered_taken, apart_bids_taken, apart_offers_taken, one_bid, one_offer}
@@ -13,7 +14,7 @@ invariant_of-self c =
     record {
       falling = ap (ordered Bid) e ∙ ordered_taken Bid (depth_levels r.bids) c.args.n r.falling;
       rising = r.rising;
-      clear = ap (λ ls. apart (first_of ls) (first_of (depth_levels r.offers))) e ∙ apart_bids_taken (depth_levels r.bids) (first_of (depth_levels r.offers)) c.args.n r.falling r.clear;
+      clear = ap (λ ls. apart (best_of ls) (best_of (depth_levels r.offers))) e ∙ apart_bids_taken (depth_levels r.bids) (best_of (depth_levels r.offers)) c.args.n r.falling r.clear;
     }
 
 pub invariant_of-self-in-Offer : goal.invariant_of-self-in-Offer
@@ -23,7 +24,7 @@ invariant_of-self-in-Offer c =
     record {
       falling = r.falling;
       rising = ap (ordered Offer) e ∙ ordered_taken Offer (depth_levels r.offers) c.args.n r.rising;
-      clear = ap (λ ls. apart (first_of (depth_levels r.bids)) (first_of ls)) e ∙ apart_offers_taken (first_of (depth_levels r.bids)) (depth_levels r.offers) c.args.n r.rising r.clear;
+      clear = ap (λ ls. apart (best_of (depth_levels r.bids)) (best_of ls)) e ∙ apart_offers_taken (best_of (depth_levels r.bids)) (depth_levels r.offers) c.args.n r.rising r.clear;
     }
 
 pub returns-in-Bid : goal.returns-in-Bid
