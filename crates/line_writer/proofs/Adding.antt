@@ -1,10 +1,8 @@
 -- One text after another on a line.
-use Rattle.std.proofs.Common.{◌≡◌, ℕ, zero, suc, ◌+◌, ◌-◌, ◌≤◌, min, true, false, List, [], ◌∷◌, ◌++◌, length, take, ℤ, pos, negsuc, nat_abs, decimal, sym, refl, ap, ◌∙◌, subst, ⊎_elim, append_assoc, append-nil, arith, length-append, length-take}
+use Rattle.std.proofs.Common.{◌≡◌, ℕ, zero, suc, ◌+◌, ◌-◌, ◌≤◌, min, List, [], ◌∷◌, ◌++◌, length, take, sym, refl, ap, ◌∙◌, subst, ⊎_elim, append_assoc, append-nil, arith, length-append, length-take}
 use lib.Seq.{take-append-add}
-use lib.Signed.{lt_z}
-use Rattle.std.specs.Fmt.{signed_decimal}
 use Rattle.std.proofs.lemmas.List.{take_all, take-append-le, flat_map_more}
-use Rattle.std.proofs.lemmas.Bool.{cases_lt, ltb-true, true≢false}
+use Rattle.std.proofs.lemmas.Bool.{cases_lt}
 use Rattle.lines.specs.Forms.{Atom, atom_text, spaced_atoms}
 use Rattle.line_writer.specs.Lines.{Starts, Adds, render}
 
@@ -36,13 +34,9 @@ in_turn {c = c} x y p q text h = subst (λ t. Starts c t) (append_assoc text x y
 pub same_text : {a b x y : List ℕ} → x ≡ y → Adds a b x → Adds a b y
 same_text {a = a} {b = b} e p = subst (Adds a b) e p
 
-pub signed_below : (z : ℤ) → lt_z z (pos 0) ≡ true → signed_decimal z ≡ 45 ∷ decimal (nat_abs z)
-signed_below (pos n) h = absurd (omega (arith, ltb-true n 0 h))
-signed_below (negsuc n) h = refl
-
-pub signed_above : (z : ℤ) → lt_z z (pos 0) ≡ false → signed_decimal z ≡ decimal (nat_abs z)
-signed_above (pos n) h = refl
-signed_above (negsuc n) h = absurd (true≢false h)
+-- a space, and then a text that is written otherwise
+pub spaced : {a b c x y : List ℕ} → x ≡ y → Adds a b (32 ∷ []) → Adds b c x → Adds a c (32 ∷ y)
+spaced {x = x} e p q = same_text (ap (λ t. 32 ∷ t) e) (in_turn (32 ∷ []) x p q)
 
 -- A form, field by field.
 

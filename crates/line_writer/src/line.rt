@@ -3,6 +3,7 @@ ghost use Rattle.std.specs.Prelude.{◌≤◌};
 
 pub const CAPACITY: usize = 160;
 
+// No ArrayVec, which is not Copy, and no ArrayString, which cuts no text.
 #[derive(Clone, Copy)]
 pub struct Line {
     bytes: [u8; CAPACITY],

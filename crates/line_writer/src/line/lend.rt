@@ -21,7 +21,8 @@ impl Line {
         if area.len() < CAPACITY {
             return Err(LineFault::ShortArea);
         }
-        area[0..self.len].copy_from_slice(&self.bytes[0..self.len]);
-        Ok(self.len)
+        let text = self.as_bytes();
+        area[..text.len()].copy_from_slice(text);
+        Ok(text.len())
     }
 }

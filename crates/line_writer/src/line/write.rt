@@ -1,10 +1,10 @@
 // Writing a form onto a line.
-ghost use Rattle.std.specs.Prelude.{◌≡◌, [], ◌∷◌, map, decimal};
-ghost use Rattle.std.specs.Fmt.{signed_decimal};
+ghost use Rattle.std.specs.Prelude.{◌≡◌, [], ◌∷◌, map};
 ghost use Rattle.lines.specs.Forms.{atom_text};
 ghost use Rattle.line_writer.specs.Lines.{held, Starts, Adds, atom, render};
 
 use super::{CAPACITY, Field, Line};
+use itoa::Buffer;
 
 // Where there is no room left, nothing more is written.
 impl Line {
@@ -35,28 +35,6 @@ impl Line {
         self.len = end;
     }
 
-    fn digits(&mut self, n: u64)
-        ensures { Adds (held self.old) (held self.new) (decimal n) }
-    {
-        if n < 10 {
-            self.byte(b'0' + n as u8);
-        } else {
-            self.digits(n / 10);
-            self.byte(b'0' + (n % 10) as u8);
-        }
-    }
-
-    fn number(&mut self, n: i64)
-        ensures { Adds (held self.old) (held self.new) (signed_decimal n) }
-    {
-        if n < 0 {
-            self.byte(b'-');
-            self.digits(n.unsigned_abs());
-        } else {
-            self.digits(n.unsigned_abs());
-        }
-    }
-
     // A space and the field.
     fn field(&mut self, field: Field)
         ensures { Adds (held self.old) (held self.new) (32 ∷ atom_text (atom field.entry)) }
@@ -64,8 +42,8 @@ impl Line {
         self.byte(b' ');
         match field {
             Field::Word(word) => self.text(word.as_bytes()),
-            Field::Count(n) => self.digits(n),
-            Field::Number(n) => self.number(n),
+            Field::Count(n) => self.text(Buffer::new().format(n).as_bytes()),
+            Field::Number(n) => self.text(Buffer::new().format(n).as_bytes()),
         }
     }
 
