@@ -13,7 +13,8 @@ use Rattle.orders.specs.declared.records.OrderTerms.{OrderTerms}
 use Rattle.orders.specs.Checks.{check, first_bad, map_ok, between, amount}
 use Rattle.orders.specs.Faults.{order_number, number_of}
 use Rattle.orders.specs.Ranges.{limit_in_range, quantity_in_range, leg_in_range, ratio_of, series_number, traded_leg}
-use Rattle.orders.specs.Orders.{legs_of, two_to_four, repeated, uneven, reducible, legs_checked}
+use Rattle.orders.specs.LegLists.{is_few, legs_of}
+use Rattle.orders.specs.Orders.{repeated, uneven, reducible, legs_checked}
 use Rattle.orders.specs.Entered.{Entered, order_of, checked_order}
 use Rattle.orders.specs.SoundLegs.{sound}
 use Rattle.orders.proofs.Checked.{err_ok, same_ok, check_ok, at_ok, map_ok_lem, none_refused, check_all, at_all, map_all}
@@ -67,7 +68,7 @@ checked_legs_lem legs gs e =
 
 checked_is : (o : OrderTerms) (x : Entered) → checked_order o ≡ Ok x → (x ≡ entered_as o) × (0 < amount o.quantity) × (sound (entered_legs o) ≡ true)
 checked_is o x e =
-    let counted = check_ok (two_to_four o.legs.count) order.LegCount _ x e in
+    let counted = check_ok (is_few o.legs) order.LegCount _ x e in
     let within = check_ok (limit_in_range o.limit && quantity_in_range o.quantity) (order.Range 0) _ x counted.1 in
     let made = map_ok_lem (order_of o) (legs_checked (legs_of o.legs)) x within.1 in
     let legs = checked_legs_lem (legs_of o.legs) made.0 made.1 in (

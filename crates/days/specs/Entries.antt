@@ -15,7 +15,7 @@ use Rattle.orders.specs.declared.records.Channel.{Channel}
 use Rattle.orders.specs.declared.records.Channel.TheVariants as channel
 use Rattle.orders.specs.Checks.{check, map_ok}
 use Rattle.orders.specs.Ranges.{traded_leg}
-use Rattle.orders.specs.Orders.{legs_of}
+use Rattle.orders.specs.LegLists.{legs_of}
 use Rattle.orders.specs.Entered.{Entered, order_of, checked_order}
 use Rattle.orders.specs.TurnedTerms.{Terms, turned_terms}
 use Rattle.listing.specs.Resolving.{option_leg, resolving}

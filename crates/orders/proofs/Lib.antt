@@ -1,4 +1,3 @@
-pub mod LegLists
 pub mod LegChecks
 pub mod Soundness
 pub mod Arrays

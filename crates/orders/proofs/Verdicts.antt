@@ -8,7 +8,8 @@ use Rattle.orders.specs.declared.records.LegTerms.{LegTerms}
 use Rattle.orders.specs.declared.records.OrderTerms.{OrderTerms}
 use Rattle.orders.specs.Checks.{check, check_at, map_ok, first_bad, amount}
 use Rattle.orders.specs.Ranges.{limit_in_range, quantity_in_range, leg_in_range, ratio_of, series_number, traded_leg}
-use Rattle.orders.specs.Orders.{legs_of, two_to_four, legs_in_range, repeated, uneven, reducible, legs_checked}
+use Rattle.orders.specs.LegLists.{is_few, legs_of}
+use Rattle.orders.specs.Orders.{legs_in_range, repeated, uneven, reducible, legs_checked}
 use Rattle.orders.specs.Entered.{Entered, order_of, checked_order}
 use Rattle.orders.specs.SoundLegs.{sound}
 use Rattle.orders.proofs.Soundness.{passed_sound}
@@ -71,12 +72,12 @@ module _ (legs : List LegTerms) (gs all : List TradedLeg) (is : Ok gs ≡ legs_i
     passes_sound = passed_sound legs gs parts.0 parts.1 (ap (λ x. repeated [] 1 (map (λ g. g.series) x)) (sym same) ∙ sym twice ∙ none)
 
 -- an order whose legs are refused
-pub stops_legs : (o : OrderTerms) (legs : List LegTerms) (q : ℕ) (e : OrderFault) → Ok legs ≡ check (two_to_four o.legs.count) LegCount (Ok (legs_of o.legs)) → limit_in_range o.limit ≡ true → Ok q ≡ check (quantity_in_range o.quantity) (Range 0) (Ok (amount o.quantity)) → Err e ≡ legs_checked legs → Err e ≡ checked_order o
+pub stops_legs : (o : OrderTerms) (legs : List LegTerms) (q : ℕ) (e : OrderFault) → Ok legs ≡ check (is_few o.legs) LegCount (Ok (legs_of o.legs)) → limit_in_range o.limit ≡ true → Ok q ≡ check (quantity_in_range o.quantity) (Range 0) (Ok (amount o.quantity)) → Err e ≡ legs_checked legs → Err e ≡ checked_order o
 stops_legs o legs q e counted limit quantity bad =
-    let n = passed (two_to_four o.legs.count) legs (legs_of o.legs) LegCount counted in
+    let n = passed (is_few o.legs) legs (legs_of o.legs) LegCount counted in
     let k = passed (quantity_in_range o.quantity) q (amount o.quantity) (Range 0) quantity in
     let next : Result Entered OrderFault = map_ok (order_of o) (legs_checked (legs_of o.legs)) in
     let numbers = and_from (limit_in_range o.limit) (quantity_in_range o.quantity) limit k.0 in
     ap (map_ok (order_of o)) (bad ∙ ap legs_checked n.1)
     ∙ sym (cond-true (limit_in_range o.limit && quantity_in_range o.quantity) next (Err (Range 0)) numbers)
-    ∙ sym (cond-true (two_to_four o.legs.count) (check (limit_in_range o.limit && quantity_in_range o.quantity) (Range 0) next) (Err LegCount) n.0)
+    ∙ sym (cond-true (is_few o.legs) (check (limit_in_range o.limit && quantity_in_range o.quantity) (Range 0) next) (Err LegCount) n.0)

@@ -13,7 +13,8 @@ use Rattle.orders.specs.declared.quantity.Quantity.{Quantity}
 use Rattle.orders.specs.declared.order.CheckedOrder.{CheckedOrder}
 use Rattle.orders.specs.Checks.{check, map_ok, amount}
 use Rattle.orders.specs.Ranges.{limit_in_range, quantity_in_range}
-use Rattle.orders.specs.Orders.{two_to_four, legs_of, legs_checked}
+use Rattle.orders.specs.LegLists.{is_few, legs_of}
+use Rattle.orders.specs.Orders.{two_to_four, legs_checked}
 
 pub record Entered : Type 0 where
   pub side : Side
@@ -39,7 +40,7 @@ order_of o legs = record { side = o.side; limit = o.limit; quantity = amount o.q
 -- the order, or why it is refused
 abbrev pub checked_order : OrderTerms → Result Entered OrderFault
 checked_order o =
-    check (two_to_four o.legs.count) LegCount (
+    check (is_few o.legs) LegCount (
     check (limit_in_range o.limit && quantity_in_range o.quantity) (Range 0) (
     map_ok (order_of o) (legs_checked (legs_of o.legs))))
 

@@ -1,17 +1,14 @@
 -- The checks of an order and of its legs.
-use Rattle.std.specs.Prelude.{ℕ, ◌+◌, ◌*◌, ◌%◌, Bool, cond, not, ◌&&◌, ◌||◌, List, [], ◌∷◌, ◌++◌, map, length, take, Some, None, Ok, Option, Result, nat_eq, nat_le, nat_lt}
+use Rattle.std.specs.Prelude.{ℕ, ◌+◌, ◌*◌, ◌%◌, Bool, cond, not, ◌&&◌, ◌||◌, List, [], ◌∷◌, ◌++◌, map, length, Some, None, Ok, Option, Result, nat_eq, nat_le, nat_lt}
 use Rattle.std.specs.List.{list_any, list_all, range_with_len}
 use Rattle.market.specs.declared.leg.TradedLeg.{TradedLeg}
 use Rattle.orders.specs.declared.fault.OrderFault.{OrderFault}
 use Rattle.orders.specs.declared.fault.OrderFault.TheVariants.{LegCount, Range, Repeated, Ratios}
 use Rattle.orders.specs.declared.records.LegTerms.{LegTerms}
 use Rattle.orders.specs.declared.records.LegList.{LegList}
+use Rattle.orders.specs.LegLists.{is_few, legs_of}
 use Rattle.orders.specs.Checks.{check, check_at, first_bad}
 use Rattle.orders.specs.Ranges.{leg_in_range, ratio_of, series_number, traded_leg}
-
--- the legs of a list that has two to four
-abbrev pub legs_of : LegList → List LegTerms
-legs_of l = take l.count l.first
 
 abbrev pub two_to_four : ℕ → Bool
 two_to_four n = nat_le 2 n && nat_le n 4
@@ -53,7 +50,7 @@ legs_checked legs =
     Ok (map traded_leg legs))))
 
 abbrev pub checked_legs : LegList → Result (List TradedLeg) OrderFault
-checked_legs l = check (two_to_four l.count) LegCount (legs_checked (legs_of l))
+checked_legs l = check (is_few l) LegCount (legs_checked (legs_of l))
 
 -- the same over all legs, however many
 abbrev pub whole_checked : List LegTerms → Result (List TradedLeg) OrderFault

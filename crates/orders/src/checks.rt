@@ -86,31 +86,35 @@ fn order_legs(legs: Legs<LegTerms>) -> Result<OrderLegs, OrderFault>
     Ok(OrderLegs::new(legs))
 }
 
-impl LegList {
-    // The legs of an order, or of a net market that is asked for.
-    pub fn checked(self) -> Result<OrderLegs, OrderFault>
-        ensures answer { map_ok legs_in result ≡ checked_legs self }
-        ensures whole { (all : List LegTerms) → self ≡ abridged all → map_ok legs_in result ≡ whole_checked all }
-    {
-        order_legs(self.two_to_four()?)
+// The legs of an order, or of a net market that is asked for.
+impl TryFrom<LegList> for OrderLegs {
+    type Error = OrderFault;
+
+    ghost try_from_gives = { λ l r. (map_ok legs_in r ≡ checked_legs l)
+        × ((all : List LegTerms) → l ≡ abridged all → map_ok legs_in r ≡ whole_checked all) };
+
+    fn try_from(legs: LegList) -> Result<OrderLegs, OrderFault> {
+        order_legs(legs.two_to_four()?)
     }
 }
 
-impl OrderTerms {
-    pub fn checked(self) -> Result<CheckedOrder, OrderFault>
-        ensures answer { map_ok entered_order result ≡ checked_order self }
-        ensures whole { (all : List LegTerms) → self.legs ≡ abridged all → map_ok entered_order result ≡ whole_order self all }
-    {
-        let legs = self.legs.two_to_four()?;
-        if !limit_in_range(self.limit) {
+impl TryFrom<OrderTerms> for CheckedOrder {
+    type Error = OrderFault;
+
+    ghost try_from_gives = { λ o r. (map_ok entered_order r ≡ checked_order o)
+        × ((all : List LegTerms) → o.legs ≡ abridged all → map_ok entered_order r ≡ whole_order o all) };
+
+    fn try_from(terms: OrderTerms) -> Result<CheckedOrder, OrderFault> {
+        let legs = terms.legs.two_to_four()?;
+        if !limit_in_range(terms.limit) {
             return Err(OrderFault::Range(0));
         }
-        let quantity = checked_quantity(self.quantity)?;
+        let quantity = checked_quantity(terms.quantity)?;
         Ok(CheckedOrder {
-            side: self.side,
-            limit: self.limit,
+            side: terms.side,
+            limit: terms.limit,
             quantity,
-            channel: self.channel,
+            channel: terms.channel,
             legs: order_legs(legs)?,
         })
     }

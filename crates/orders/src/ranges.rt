@@ -21,39 +21,57 @@ pub(crate) fn in_range(n: i32, low: u32, high: u32, place: u8) -> Result<u32, Or
         .ok_or(OrderFault::Range(place))
 }
 
-impl SeriesTerms {
-    pub fn checked(self) -> Result<Series, OrderFault>
-        ensures { result ≡ checked_series self }
-    {
+impl TryFrom<SeriesTerms> for Series {
+    type Error = OrderFault;
+
+    ghost try_from_gives = { λ t r. r ≡ checked_series t };
+
+    fn try_from(terms: SeriesTerms) -> Result<Series, OrderFault> {
         Ok(Series {
-            underlying: in_range(self.underlying, 1, 9_999, 0)? as u16,
-            kind: self.kind,
-            strike: in_range(self.strike, 1, 10_000_000, 0)?,
-            expiry: in_range(self.expiry, 1, 65_535, 0)? as u16,
+            underlying: in_range(terms.underlying, 1, 9_999, 0)? as u16,
+            kind: terms.kind,
+            strike: in_range(terms.strike, 1, 10_000_000, 0)?,
+            expiry: in_range(terms.expiry, 1, 65_535, 0)? as u16,
         })
     }
 }
+
+// The most that a notice may set for verticals.
+const MOST_OF_VERTICALS: Buffer = Buffer {
+    minimum: 100,
+    absolute: 100,
+    percentage: 1_000,
+};
+
+// The most that a notice may set for butterflies and for boxes.
+const MOST: Buffer = Buffer {
+    minimum: 1_000,
+    absolute: 1_000,
+    percentage: 10_000,
+};
 
 impl BufferTerms {
-    fn checked(self, minimum: u16, absolute: u16, percentage: u16) -> Result<Buffer, OrderFault>
-        ensures { result ≡ check (buffer_in_range minimum absolute percentage self) (Range 0) (Ok (buffer_of self)) }
+    fn checked(self, most: Buffer) -> Result<Buffer, OrderFault>
+        ensures { result ≡ check (buffer_in_range most.minimum most.absolute most.percentage self) (Range 0) (Ok (buffer_of self)) }
     {
         Ok(Buffer {
-            minimum: in_range(self.minimum, 0, u32::from(minimum), 0)? as u16,
-            absolute: in_range(self.absolute, 0, u32::from(absolute), 0)? as u16,
-            percentage: in_range(self.percentage, 0, u32::from(percentage), 0)? as u16,
+            minimum: in_range(self.minimum, 0, u32::from(most.minimum), 0)? as u16,
+            absolute: in_range(self.absolute, 0, u32::from(most.absolute), 0)? as u16,
+            percentage: in_range(self.percentage, 0, u32::from(most.percentage), 0)? as u16,
         })
     }
 }
 
-impl NoticeTerms {
-    pub fn checked(self) -> Result<Buffers, OrderFault>
-        ensures { result ≡ checked_notice self }
-    {
+impl TryFrom<NoticeTerms> for Buffers {
+    type Error = OrderFault;
+
+    ghost try_from_gives = { λ t r. r ≡ checked_notice t };
+
+    fn try_from(terms: NoticeTerms) -> Result<Buffers, OrderFault> {
         Ok(Buffers {
-            vertical: self.vertical.checked(100, 100, 1_000)?,
-            butterfly: self.butterfly.checked(1_000, 1_000, 10_000)?,
-            boxes: self.boxes.checked(1_000, 1_000, 10_000)?,
+            vertical: terms.vertical.checked(MOST_OF_VERTICALS)?,
+            butterfly: terms.butterfly.checked(MOST)?,
+            boxes: terms.boxes.checked(MOST)?,
         })
     }
 }

@@ -4,8 +4,7 @@ ghost use Rattle.strategy.specs.Few.{listed};
 ghost use Rattle.orders.specs.declared.fault.OrderFault.TheVariants.{LegCount};
 ghost use Rattle.orders.specs.declared.records.LegTerms.{LegTerms};
 ghost use Rattle.orders.specs.Checks.{check, map_ok};
-ghost use Rattle.orders.specs.LegLists.{abridged};
-ghost use Rattle.orders.specs.Orders.{legs_of, two_to_four};
+ghost use Rattle.orders.specs.LegLists.{abridged, is_few, legs_of};
 
 use crate::fault::OrderFault;
 use strategy::leg::{Kind, Side};
@@ -41,11 +40,13 @@ pub struct LegTerms {
     pub series: i32,
 }
 
-// Any number of legs: the first four, and how many there are. A count of 65535 stands for that many or more.
+// Any number of legs; of more than four only that they are too many.
 #[derive(Clone, Copy)]
-pub struct LegList {
-    first: [LegTerms; 4],
-    count: u16,
+pub enum LegList {
+    Empty,
+    One(LegTerms),
+    Few(Legs<LegTerms>),
+    Many,
 }
 
 #[derive(Clone, Copy)]
@@ -65,41 +66,42 @@ pub struct OrderTerms {
     pub legs: LegList,
 }
 
+// The legs and one more.
+fn one_more(legs: &Legs<LegTerms>, leg: LegTerms) -> LegList
+    ensures { result ≡ abridged (listed legs.now ++ leg ∷ []) }
+{
+    match legs.as_slice() {
+        [a, b] => LegList::Few(Legs::Three([*a, *b, leg])),
+        [a, b, c] => LegList::Few(Legs::Four([*a, *b, *c, leg])),
+        _ => LegList::Many,
+    }
+}
+
 impl LegList {
     pub fn new() -> Self
         ensures { result ≡ abridged [] }
     {
-        let unused = LegTerms {
-            side: Side::Buy,
-            ratio: 0,
-            series: 0,
-        };
-        LegList {
-            first: [unused; 4],
-            count: 0,
-        }
+        Self::Empty
     }
 
     // One leg more, behind the others.
     pub fn push(&mut self, leg: LegTerms)
         ensures { (all : List LegTerms) → self.old ≡ abridged all → self.new ≡ abridged (all ++ leg ∷ []) }
     {
-        let at = usize::from(self.count);
-        if at < 4 {
-            self.first[at] = leg;
-        }
-        self.count = self.count.saturating_add(1);
+        *self = match *self {
+            LegList::Empty => LegList::One(leg),
+            LegList::One(a) => LegList::Few(Legs::Two([a, leg])),
+            LegList::Few(legs) => one_more(&legs, leg),
+            LegList::Many => LegList::Many,
+        };
     }
 
     // The legs of a list that has two to four.
     pub(crate) fn two_to_four(self) -> Result<Legs<LegTerms>, OrderFault>
-        ensures { map_ok listed result ≡ check (two_to_four self.count) LegCount (Ok (legs_of self)) }
+        ensures { map_ok listed result ≡ check (is_few self) LegCount (Ok (legs_of self)) }
     {
-        let [a, b, c, d] = self.first;
-        match self.count {
-            2 => Ok(Legs::Two([a, b])),
-            3 => Ok(Legs::Three([a, b, c])),
-            4 => Ok(Legs::Four([a, b, c, d])),
+        match self {
+            LegList::Few(legs) => Ok(legs),
             _ => Err(OrderFault::LegCount),
         }
     }

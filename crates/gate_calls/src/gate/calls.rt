@@ -25,6 +25,7 @@ use market::quote::TwoSided;
 use market::trading::Market;
 use orders::bell::Bell;
 use orders::fault::GateFault;
+use orders::legs::OrderLegs;
 use orders::phase::Phase;
 use orders::records::{LegList, NoticeTerms, OrderTerms, SeriesTerms};
 use strategy::class::Strategy;
@@ -110,7 +111,7 @@ impl<'a> Gate<'a> {
     pub fn net<M: Market>(&self, legs: LegList, market: &M) -> Result<TwoSided<i32>, GateFault>
         ensures { result ≡ netting (state self.now) legs (M.levels market.now) }
     {
-        let legs = legs.checked()?.as_legs();
+        let legs = OrderLegs::try_from(legs)?.as_legs();
         let _ = self.table.resolve(&legs)?;
         Ok(net_market(market, &legs))
     }

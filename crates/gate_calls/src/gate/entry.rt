@@ -61,7 +61,7 @@ impl Gate<'_> {
     pub(super) fn place(&self, terms: OrderTerms) -> Result<PlacedOrder, GateFault>
         ensures { map_ok placed_of result ≡ placed (state self.now) terms }
     {
-        let order = terms.checked()?;
+        let order = CheckedOrder::try_from(terms)?;
         if self.is_closed() {
             return Err(GateFault::Phase);
         }

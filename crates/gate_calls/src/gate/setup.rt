@@ -11,6 +11,7 @@ use orders::bell::Bell;
 use orders::fault::GateFault;
 use orders::phase::Phase;
 use orders::records::{NoticeTerms, SeriesTerms};
+use strategy::leg::Series;
 use strategy::price::{Buffer, Buffers};
 
 const MOST_NOTICES: usize = 64;
@@ -49,7 +50,7 @@ impl Gate<'_> {
         ensures answer { result ≡ listing (state self.old) terms }
         ensures after { Changes result (state self.old) (state self.new) (listed_in (state self.old) terms) }
     {
-        let series = terms.checked()?;
+        let series = Series::try_from(terms)?;
         match self.phase {
             Phase::Pre => self.table.add(series),
             _ => Err(GateFault::Phase),
@@ -60,7 +61,7 @@ impl Gate<'_> {
         ensures answer { result ≡ posting (state self.old) terms }
         ensures after { Changes result (state self.old) (state self.new) (posted_in (state self.old) terms) }
     {
-        let buffers = terms.checked()?;
+        let buffers = Buffers::try_from(terms)?;
         if self.is_closed() {
             return Err(GateFault::Phase);
         }
