@@ -1,5 +1,8 @@
 -- What the legs of an order keep once they passed its checks.
 use Rattle.std.specs.Prelude.{Bool, true, ◌&&◌, List, [], ◌∷◌, nat_le}
+use Rattle.strategy.specs.declared.leg.Side.TheVariants.{Buy, Sell}
+use Rattle.strategy.specs.declared.legs.Legs.{Legs}
+use Rattle.strategy.specs.declared.legs.Legs.TheVariants.{Two}
 use Rattle.strategy.specs.Legs.{turned_side}
 use Rattle.market.specs.declared.leg.TradedLeg.{TradedLeg}
 use Rattle.market.specs.Takes.{distinct}
@@ -16,3 +19,7 @@ sound gs = ratios_in_range gs && distinct gs
 -- a leg in turned terms, or as it is
 abbrev pub turned_leg : Bool → TradedLeg → TradedLeg
 turned_leg turned g = record { side = turned_side turned g.side; ratio = g.ratio; series = g.series }
+
+-- one of series 0 bought and one of series 1 sold, where no order stands
+abbrev pub blank_legs : Legs TradedLeg
+blank_legs = Two (record { side = Buy; ratio = 1; series = 0 } ∷ record { side = Sell; ratio = 1; series = 1 } ∷ [])

@@ -1,9 +1,10 @@
 // The legs of an order that passed its checks.
 ghost use Rattle.std.specs.Prelude.{◌≡◌, true, map};
 ghost use Rattle.strategy.specs.Few.{listed};
-ghost use Rattle.orders.specs.SoundLegs.{sound, turned_leg};
+ghost use Rattle.orders.specs.SoundLegs.{sound, turned_leg, blank_legs};
 
 use market::leg::TradedLeg;
+use strategy::leg::Side;
 use strategy::legs::Legs;
 
 // Two to four legs in different series, each of a ratio from 1 to 12.
@@ -48,5 +49,26 @@ impl OrderLegs {
             Legs::Four(legs) => turn_all(legs, turned),
         }
         OrderLegs { legs }
+    }
+}
+
+// What stands where no order does yet.
+impl Default for OrderLegs {
+    ghost is_default = { λ o. o.legs ≡ blank_legs };
+
+    fn default() -> OrderLegs {
+        let bought = TradedLeg {
+            side: Side::Buy,
+            ratio: 1,
+            series: 0,
+        };
+        let sold = TradedLeg {
+            side: Side::Sell,
+            ratio: 1,
+            series: 1,
+        };
+        OrderLegs {
+            legs: Legs::Two([bought, sold]),
+        }
     }
 }
