@@ -1,6 +1,5 @@
-pub mod Closing
 pub mod Looks
 pub mod Totals
 pub mod Tables
+pub mod Next
 pub mod Changes
-pub mod Halves

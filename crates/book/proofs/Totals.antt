@@ -1,8 +1,10 @@
 -- Sums over all orders, by number and by place.
-use Rattle.std.proofs.Common.{◌≡◌, ℕ, zero, suc, ◌+◌, ◌<◌, ◌≤◌, true, List, [], ◌∷◌, length, Some, None, Option, sym, refl, ap, ◌∙◌, ⊎_elim, arith}
-use Rattle.std.proofs.lemmas.Bool.{cases_eq, false≢true}
-use Rattle.book.specs.Resting.{Resting, resting_of, one, sum_up_to}
-use Rattle.book.specs.Places.{Place, orderly, look}
+use Rattle.std.proofs.Common.{◌≡◌, ℕ, zero, suc, ◌+◌, ◌<◌, ◌≤◌, true, List, [], ◌∷◌, Option, None, Some, sym, refl, ap, ◌∙◌, ⊎_elim, arith, sum_by}
+use Rattle.std.proofs.lemmas.Bool.{cases_eq}
+use Rattle.std.proofs.lemmas.List.Sums.{sum_by-cons}
+use Rattle.book.specs.declared.order.RestingOrder.{RestingOrder}
+use Rattle.book.specs.Resting.{Resting, resting_of, sum_up_to}
+use Rattle.book.specs.Tables.{orderly, look}
 use Rattle.book.proofs.Looks.{parts, bounds, look_other, look_here, look_low}
 
 -- f is g with one order more, under the number n
@@ -31,30 +33,17 @@ module _ (w : Option Resting → ℕ) (f g : ℕ → Option Resting) (n units : 
       (λ ne. let a = same_at (suc h) ne in let b = one_more h (omega arith) in omega arith)
       (cases_eq n (suc h))
 
--- a sum by place
-abbrev pub sum_in : (Option Resting → ℕ) → List Place → ℕ
-sum_in w [] = 0
-sum_in w (None ∷ ps) = sum_in w ps
-sum_in w (Some o ∷ ps) = w (Some (resting_of o)) + sum_in w ps
-
 module _ (w : Option Resting → ℕ) (none : w None ≡ 0) where
   pub none_rest : (n : ℕ) → sum_up_to w (look []) n ≡ 0
   none_rest zero = none
   none_rest (suc n) = let e = none_rest n in omega arith
 
   -- both sums are the same
-  pub sums : (low high top : ℕ) (ps : List Place) → orderly low high ps ≡ true → high ≤ top → sum_up_to w (look ps) top ≡ sum_in w ps
+  pub sums : (low high top : ℕ) (os : List RestingOrder) → orderly low high os ≡ true → high ≤ top → sum_up_to w (look os) top ≡ sum_by (λ o. w (Some (resting_of o))) os
   sums low high top [] h le = none_rest top
-  sums low high top (None ∷ ps) h le = absurd (false≢true h)
-  sums low high top (Some o ∷ ps) h le =
-      let p = (parts low high o ps h).others in
-      let b = bounds o.number high ps p in
-      one_more w (look (Some o ∷ ps)) (look ps) o.number (w (Some (resting_of o))) (ap w (look_here o ps o.number refl))
-      (ap w (look_low o.number high o.number ps p (omega arith)) ∙ none) (λ k ne. look_other o ps k ne) top (omega arith)
-      ∙ ap (λ u. w (Some (resting_of o)) + u) (sums o.number high top ps p le)
-
--- every place in use holds an order
-pub counted : (low high : ℕ) (ps : List Place) → orderly low high ps ≡ true → sum_in one ps ≡ length ps
-counted low high [] h = refl
-counted low high (None ∷ ps) h = absurd (false≢true h)
-counted low high (Some o ∷ ps) h = let e = counted o.number high ps (parts low high o ps h).others in omega arith
+  sums low high top (o ∷ os) h le =
+      let p = (parts low high o os h).others in
+      let b = bounds o.number high os p in
+      one_more w (look (o ∷ os)) (look os) o.number (w (Some (resting_of o))) (ap w (look_here o os o.number refl))
+      (ap w (look_low o.number high o.number os p (omega arith)) ∙ none) (λ k ne. look_other o os k ne) top (omega arith)
+      ∙ ap (λ u. w (Some (resting_of o)) + u) (sums o.number high top os p le) ∙ sym (sum_by-cons (λ o. w (Some (resting_of o))) o os)

@@ -1,13 +1,14 @@
 -- What a book holds, by order number, and what it answers.
-use Rattle.std.specs.Prelude.{ℕ, ◌+◌, cond, List, take, Ok, Err, Option, Result, nat_le}
+use Rattle.std.specs.Prelude.{ℕ, ◌+◌, cond, List, length, Ok, Err, Option, Result, nat_le}
 use Rattle.book.specs.declared.book.Book.{Book}
 use Rattle.book.specs.declared.fault.BookFault.{BookFault}
 use Rattle.book.specs.declared.fault.BookFault.TheVariants.{Full, NumbersUsedUp}
 use Rattle.book.specs.Resting.{Resting}
-use Rattle.book.specs.Places.{Place, look}
+use Rattle.book.specs.declared.order.RestingOrder.{RestingOrder}
+use Rattle.book.specs.Tables.{look}
 
-abbrev pub in_use : Book → List Place
-in_use b = take b.used b.places
+abbrev pub in_use : Book → List RestingOrder
+in_use b = b.orders.items
 
 -- the resting order with number n
 abbrev pub resting : Book → ℕ → Option Resting
@@ -15,7 +16,7 @@ resting b = look (in_use b)
 
 -- how many orders rest
 abbrev pub count : Book → ℕ
-count b = b.used
+count b = length (in_use b)
 
 -- the last number given
 abbrev pub last : Book → ℕ

@@ -1,4 +1,4 @@
 pub mod Faults
 pub mod Resting
-pub mod Places
+pub mod Tables
 pub mod Books

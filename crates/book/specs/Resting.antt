@@ -1,10 +1,13 @@
 -- Resting orders by their numbers.
 use Rattle.std.specs.Prelude.{◌≡◌, ℕ, zero, suc, ◌+◌, ◌-◌, ◌<◌, true, cond, List, ℤ, is_some, Some, None, Option, MatchOption, ◌==◌, nat_lt}
 use Rattle.strategy.specs.declared.leg.Side.{Side}
+use Rattle.strategy.specs.declared.leg.Side.TheVariants.{Buy}
 use Rattle.strategy.specs.declared.class.Class.{Class}
+use Rattle.strategy.specs.declared.class.Class.TheVariants.{Other}
 use Rattle.strategy.specs.Few.{listed}
 use Rattle.market.specs.declared.leg.TradedLeg.{TradedLeg}
 use Rattle.orders.specs.declared.turned.TurnedOrder.{TurnedOrder}
+use Rattle.orders.specs.SoundLegs.{blank_legs}
 use Rattle.book.specs.declared.order.RestingOrder.{RestingOrder}
 use Rattle.orders.specs.declared.quantity.Quantity.{Quantity}
 
@@ -34,6 +37,10 @@ resting_of o = of_terms o.number o.remaining o.terms
 abbrev pub rest : Option RestingOrder → Option Resting
 rest None = None
 rest (Some o) = Some (resting_of o)
+
+-- in a place that no order uses
+abbrev pub blank : Resting
+blank = record { number = 0; class = Other; width = 0; side = Buy; limit = None; remaining = 0; legs = listed blank_legs }
 
 -- no order at any number
 abbrev pub nothing : ℕ → Option Resting

@@ -1,14 +1,15 @@
 // What changes the book, by order number.
-ghost use Rattle.std.specs.Prelude.{◌≡◌, ◌+◌, ◌-◌, ◌<◌, ◌≤◌, IfSome, Some, None, MatchResult};
-ghost use Rattle.std.specs.List.{remove};
+ghost use Rattle.std.specs.Prelude.{◌≡◌, ◌+◌, ◌-◌, ◌≤◌, IfSome, Some, None, MatchResult};
 ghost use Rattle.book.specs.Resting.{put, nothing, entered, reduced, leaving, one, units_of, open_up_to};
-ghost use Rattle.book.specs.Books.{resting, count, last, in_use, answered};
+ghost use Rattle.book.specs.Books.{resting, count, last, answered};
 
 use super::Book;
 use crate::fault::BookFault;
 use crate::order::RestingOrder;
+use arrayvec::ArrayVec;
 use orders::quantity::Quantity;
 use orders::turned::TurnedOrder;
+use std::cmp::Ordering;
 
 impl Book {
     pub fn new() -> Book
@@ -17,8 +18,7 @@ impl Book {
         ensures last { last result ≡ 0 }
     {
         Book {
-            places: [None; 64],
-            used: 0,
+            orders: ArrayVec::new(),
             given: 0,
         }
     }
@@ -28,7 +28,7 @@ impl Book {
         ensures answer { result ≡ answered (count self.old) (last self.old) }
         ensures after { MatchResult result (λ n. (resting self.new ≡ put (resting self.old) n (Some (entered n quantity terms))) × (count self.new ≡ count self.old + 1) × (last self.new ≡ n) × (n ≤ 50000)) (λ _. self.new ≡ self.old) }
     {
-        if self.used >= 64 {
+        if self.orders.is_full() {
             return Err(BookFault::Full);
         }
         if self.given >= 50_000 {
@@ -36,25 +36,13 @@ impl Book {
         }
         let number = self.given + 1;
         let remaining = quantity.units();
-        self.places[self.used] = Some(RestingOrder {
+        self.orders.push(RestingOrder {
             number,
             remaining,
             terms,
         });
-        self.used += 1;
         self.given = number;
         Ok(number)
-    }
-
-    // Takes the order at a place out, and closes up behind it.
-    fn close_up(&mut self, place: usize)
-        requires { place < self.old.used }
-        ensures orders { in_use self.new ≡ remove (in_use self.old) place }
-        ensures count { count self.new ≡ count self.old - 1 }
-        ensures last { last self.new ≡ last self.old }
-    {
-        self.places[place..self.used].rotate_left(1);
-        self.used -= 1;
     }
 
     // Some units of an order are filled: only its remaining quantity changes, and at 0 it leaves.
@@ -64,15 +52,15 @@ impl Book {
         ensures count { count self.new ≡ count self.old - leaving (resting self.old number) units }
         ensures last { last self.new ≡ last self.old }
     {
-        let Some(located) = self.locate(number) else {
+        let Some(place) = self.place(number) else {
             return;
         };
-        let (place, order) = located;
-        if units == order.remaining {
-            self.close_up(place);
-        } else if units < order.remaining {
-            let remaining = order.remaining - units;
-            self.places[place] = Some(RestingOrder { remaining, ..order });
+        match units.cmp(&self.orders[place].remaining) {
+            Ordering::Less => self.orders[place].remaining -= units,
+            Ordering::Equal => {
+                self.orders.remove(place);
+            }
+            Ordering::Greater => {}
         }
     }
 
@@ -84,9 +72,8 @@ impl Book {
         ensures count { count self.new ≡ count self.old - one (resting self.old number) }
         ensures last { last self.new ≡ last self.old }
     {
-        let (place, order) = self.locate(number)?;
-        self.close_up(place);
-        Some(order.remaining)
+        let place = self.place(number)?;
+        Some(self.orders.remove(place).remaining)
     }
 
     // Takes every order out, and answers how many units were open.
@@ -98,7 +85,7 @@ impl Book {
         ensures last { last self.new ≡ last self.old }
     {
         let units = self.total();
-        self.used = 0;
+        self.orders.clear();
         units
     }
 }

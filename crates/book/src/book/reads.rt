@@ -1,8 +1,7 @@
 // What the book holds, by order number.
-ghost use Rattle.std.specs.Prelude.{◌≡◌, ℕ, ◌<◌, ◌≤◌, true, drop, IfSome, None};
+ghost use Rattle.std.specs.Prelude.{◌≡◌, ℕ, ◌+◌, ◌*◌, ◌<◌, ◌≤◌, ◌==◌, ◌^◌, true, length, IfSome, None, sum_by, position};
 ghost use Rattle.orders.specs.Quantities.{in_range};
 ghost use Rattle.book.specs.Resting.{rest, open_up_to, resting_up_to, NextIs, NextOrderIs};
-ghost use Rattle.book.specs.Places.{look, AboveAt, Located};
 ghost use Rattle.book.specs.Books.{resting, count, last, in_use};
 
 use super::Book;
@@ -15,7 +14,7 @@ impl Book {
         ensures counted { result ≡ resting_up_to (resting self.now) (last self.now) }
         ensures few { result ≤ 64 }
     {
-        self.used
+        self.orders.len()
     }
 
     // The last number given, at first 0: no order rests above it.
@@ -27,19 +26,11 @@ impl Book {
         self.given
     }
 
-    // The place of an order, and the order.
-    pub(super) fn locate(&self, number: u16) -> Option<(usize, RestingOrder)>
-        ensures { Located (in_use self.now) number result }
+    // The place of an order.
+    pub(super) fn place(&self, number: u16) -> Option<usize>
+        ensures { result ≡ position (λ o. o.number == number) (in_use self.now) }
     {
-        for i in 0..self.used {
-            let place = self.places[i];
-            if let Some(order) = place {
-                if order.number == number {
-                    return Some((i, order));
-                }
-            }
-        }
-        None
+        self.orders.iter().position(|order| order.number == number)
     }
 
     // The resting order of this number.
@@ -47,8 +38,8 @@ impl Book {
         ensures is { rest result ≡ resting self.now number }
         ensures sound { IfSome result (λ o. (o.number ≡ number) × (in_range o.remaining ≡ true)) }
     {
-        let (_, order) = self.locate(number)?;
-        Some(order)
+        let place = self.place(number)?;
+        Some(self.orders[place])
     }
 
     // The lowest number above this one under which an order rests.
@@ -56,34 +47,7 @@ impl Book {
         ensures next { NextIs (resting self.now) number result }
         ensures small { IfSome result (λ k. k ≤ 50000) }
     {
-        for i in 0..self.used {
-            let place = self.places[i];
-            if let Some(order) = place {
-                if order.number > number {
-                    return Some(order.number);
-                }
-            }
-        }
-        None
-    }
-
-    // The first place whose order has a number above this one, found by halves: numbers rise from place to place.
-    fn place_above(&self, number: u16) -> usize
-        ensures inside { result ≤ self.now.used }
-        ensures passed { (k : ℕ) → number < k → look (drop result (in_use self.now)) k ≡ resting self.now k }
-        ensures above { AboveAt (in_use self.now) result number }
-    {
-        let mut low = 0;
-        let mut high = self.used;
-        while low < high {
-            let middle = (low + high) / 2;
-            let place = self.places[middle];
-            match place {
-                Some(order) if order.number > number => high = middle,
-                _ => low = middle + 1,
-            }
-        }
-        low
+        Some(self.order_above(number)?.number)
     }
 
     // The resting order with the lowest number above this one.
@@ -91,8 +55,8 @@ impl Book {
         ensures next { NextOrderIs (resting self.now) number (rest result) }
         ensures small { IfSome result (λ o. o.number ≤ 50000) }
     {
-        let i = self.place_above(number);
-        if i < self.used { self.places[i] } else { None }
+        let place = self.orders.partition_point(|order| order.number <= number);
+        self.orders.get(place).copied()
     }
 
     // The open units of all orders.
@@ -100,13 +64,9 @@ impl Book {
         ensures value { result ≡ open_up_to (resting self.now) (last self.now) }
         ensures small { result ≤ 640000 }
     {
-        let mut units = 0;
-        for i in 0..self.used {
-            let place = self.places[i];
-            if let Some(order) = place {
-                units += u32::from(order.remaining);
-            }
-        }
-        units
+        self.orders
+            .iter()
+            .map(|order| u32::from(order.remaining))
+            .sum()
     }
 }

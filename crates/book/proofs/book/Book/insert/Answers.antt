@@ -1,16 +1,16 @@
-use Rattle.std.proofs.Common.{refl, ◌∙◌, arith}
-use Rattle.std.proofs.lemmas.List.{length-set}
-use Rattle.std.proofs.lemmas.Bool.Decides.{nat_tests}
+use Rattle.std.proofs.Common.{◌+◌, refl, ap, ◌∙◌, arith}
+use Rattle.book.specs.Tables.{orderly, look}
 use Rattle.book.proofs.Tables.{orderly_more, look_more}
 use Rattle.book.proofs.book.Book.insert.Goals as goal
 
 pub invariant_of-self : goal.invariant_of-self
 invariant_of-self c =
     let s = c.args.self.now in
-    let units = c.units-remaining in record { sized = length-set s.places s.used _ ∙ s.sized; few = omega arith; numbered = omega arith; orderly = orderly_more s _ units.result 0 c.args.terms (omega arith) (omega arith) units.ensures.ranged }
+    let units = c.units-remaining in
+    record { numbered = omega arith; orderly = ap (orderly 0 (s.given + 1)) c.push.ensures.items ∙ orderly_more s (s.given + 1) units.result c.args.terms (omega arith) units.ensures.ranged }
 
-pub returns : goal.returns
-returns c =
+pub returns-clause-after : goal.returns-clause-after
+returns-clause-after c =
     let s = c.args.self.now in
     let units = c.units-remaining in
-    record { answer = grind (arith, nat_tests); after = (look_more s _ units.result _ c.args.terms (omega arith) (omega arith) units.ensures.value, refl, refl, omega arith) }
+    (ap look c.push.ensures.items ∙ look_more s (s.given + 1) units.result c.args.terms (omega arith) _ units.ensures.value, c.push.ensures.len, refl, omega arith)
