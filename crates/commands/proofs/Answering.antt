@@ -1,12 +1,13 @@
 -- What is answered to a line whose tokens were read, and that nothing else is.
-use Rattle.std.proofs.Common.{◌≡◌, ℕ, true, false, List, map, Ok, Err, Result, sym, refl, ap, ◌∙◌, subst, arith}
+use Rattle.std.proofs.Common.{◌≡◌, ℕ, Bool, true, false, List, map, Some, None, Option, MatchOption, Ok, Err, Result, ok_or, sym, refl, ap, ◌∙◌, subst, arith}
+use Rattle.std.specs.Bool.{then_some}
 use Rattle.std.proofs.lemmas.Bool.{both_ways}
 use Rattle.lines.specs.Faults.{Read, Refuses}
 use Rattle.lines.specs.Tokens.{Lexeme}
 use Rattle.lines.specs.declared.fault.LineFault.{LineFault}
 use Rattle.lines.specs.declared.fault.LineFault.TheVariants.{ShortArea, TooLong, Broken, Unknown}
 use Rattle.lines.proofs.Unique.{only_fault}
-use Rattle.commands.specs.Commands.{Says}
+use Rattle.commands.specs.Commands.{Says, Means}
 use Rattle.commands.specs.Feeds.{takes}
 use Rattle.commands.specs.Parts.{part}
 use Rattle.commands.specs.Understood.{Understood, Strange, Declines, Answered}
@@ -15,7 +16,7 @@ use Rattle.commands.specs.declared.command.Feed.{Feed}
 use Rattle.commands.proofs.Decoding.{one_command}
 
 module _ (feed : Feed) (line : List ℕ) (found : List Lexeme) (read : Read line found) where
-  pub understood : (c : Command) → takes feed c ≡ true → Says c (map part found) → Understood feed line c
+  understood : (c : Command) → takes feed c ≡ true → Says c (map part found) → Understood feed line c
   understood c t h =
       record {
         short = read.short;
@@ -24,7 +25,7 @@ module _ (feed : Feed) (line : List ℕ) (found : List Lexeme) (read : Read line
         says = λ head items s. subst (Says c) (ap (map part) (read.says head items s)) h;
       }
 
-  pub strange : ((c : Command) → takes feed c ≡ true → Says c (map part found) → ⊥) → Strange feed line
+  strange : ((c : Command) → takes feed c ≡ true → Says c (map part found) → ⊥) → Strange feed line
   strange none =
       record {
         short = read.short;
@@ -32,8 +33,17 @@ module _ (feed : Feed) (line : List ℕ) (found : List Lexeme) (read : Read line
         silent = λ head items s c t h. none c t (subst (Says c) (sym (ap (map part) (read.says head items s))) h);
       }
 
-  pub untaken : (c : Command) → takes feed c ≡ false → Says c (map part found) → Strange feed line
+  untaken : (c : Command) → takes feed c ≡ false → Says c (map part found) → Strange feed line
   untaken c u h = strange (λ d t k. both_ways (takes feed c) u (ap (takes feed) (sym (one_command c d (map part found) h k)) ∙ t))
+
+  chosen : (c : Command) → Says c (map part found) → (b : Bool) → takes feed c ≡ b → Answered feed line (ok_or (then_some b c) Unknown)
+  chosen c h true t = understood c t h
+  chosen c h false t = untaken c t h
+
+  -- the command that the parts say, where it is taken
+  pub answered : (r o : Option Command) → Means (map part found) r → MatchOption r (o ≡ None) (λ c. o ≡ then_some (takes feed c) c) → Answered feed line (ok_or o Unknown)
+  answered None o h e = rw e (strange (λ c t. h c))
+  answered (Some c) o h e = rw e (chosen c h (takes feed c) refl)
 
 pub declines : (feed : Feed) (line : List ℕ) (e : LineFault) → Refuses line e → Declines feed line e
 declines feed line ShortArea h = h

@@ -20,7 +20,7 @@ pub enum Command {
     Net(LegList),
 }
 
-// Which lines of a market are forms: quotes are those of a board, levels those of a ladder.
+// Which lines of a market are forms: quotes are those of a board, levels those of a ladder. Two flags, since a caller may take both or neither.
 #[derive(Clone, Copy)]
 pub struct Feed {
     pub quotes: bool,

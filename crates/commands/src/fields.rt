@@ -1,66 +1,71 @@
 // The fields of a command, read one after another.
-ghost use Rattle.std.specs.Prelude.{◌≡◌, ℕ, List, [], ◌∷◌, ℤ, MatchBool, MatchOption, ◌≢◌};
+ghost use Rattle.std.specs.Prelude.{◌≡◌, ℕ, List, [], ◌∷◌, ◌++◌, length, MatchBool, MatchOption, ◌≢◌, refl};
 ghost use Rattle.commands.specs.Parts.{Part, word, number, opens, closes, token_part, rest};
 
 use crate::words::Keyword;
 use lines::cursor::{Cursor, Token};
 
-pub(crate) fn next_token<'a>(from: &mut Cursor<'a>) -> Option<Token<'a>>
+// What can be read from the parts of a line.
+pub(crate) trait FromParts: Copy {
+    // the parts that say a value
+    ghost parts: { Self → List Part };
+
+    // how many they are
+    ghost size: { ℕ };
+
+    // Reads the value that comes next.
+    fn next(from: &mut Cursor) -> Option<Self>
+        ensures { MatchOption result ((x : Self) (more : List Part) → rest from.old ≢ parts x ++ more) (λ x. rest from.old ≡ parts x ++ rest from.new) };
+
+    ghost sized: { (x : Self) → length (parts x) ≡ size };
+}
+
+fn next_token<'a>(from: &mut Cursor<'a>) -> Option<Token<'a>>
     ensures { MatchOption result (rest from.old ≡ []) (λ t. rest from.old ≡ token_part t ∷ rest from.new) }
 {
     from.next()
 }
 
-// Makes sure that nothing is left.
-pub(crate) fn finish(from: &mut Cursor) -> Option<()>
-    ensures { MatchOption result (rest from.old ≢ []) (λ _. rest from.old ≡ []) }
-{
-    match next_token(from) {
-        None => Some(()),
-        Some(_) => None,
+impl FromParts for i32 {
+    ghost parts = { λ n. number n ∷ [] };
+
+    ghost size = { 1 };
+
+    ghost sized = { λ _. refl };
+
+    fn next(from: &mut Cursor) -> Option<i32> {
+        match next_token(from)? {
+            Token::Number(n) => Some(n),
+            _ => None,
+        }
     }
 }
 
-pub(crate) fn next_number(from: &mut Cursor) -> Option<i32>
-    ensures { MatchOption result ((z : ℤ) (more : List Part) → rest from.old ≢ number z ∷ more) (λ n. rest from.old ≡ number n ∷ rest from.new) }
-{
-    match next_token(from)? {
-        Token::Number(n) => Some(n),
-        _ => None,
-    }
-}
+impl<K: Keyword> FromParts for K {
+    ghost parts = { λ k. word (K.name k) ∷ [] };
 
-fn next_word<'a>(from: &mut Cursor<'a>) -> Option<&'a str>
-    ensures { MatchOption result ((w : List ℕ) (more : List Part) → rest from.old ≢ word w ∷ more) (λ t. rest from.old ≡ word t.now ∷ rest from.new) }
-{
-    match next_token(from)? {
-        Token::Word { text, .. } => Some(text),
-        _ => None,
-    }
-}
+    ghost size = { 1 };
 
-pub(crate) fn next_keyword<K: Keyword>(from: &mut Cursor) -> Option<K>
-    ensures { MatchOption result ((k : K) (more : List Part) → rest from.old ≢ word (K.Keyword.name k) ∷ more) (λ k. rest from.old ≡ word (K.Keyword.name k) ∷ rest from.new) }
-{
-    K::from_text(next_word(from)?)
+    ghost sized = { λ _. refl };
+
+    fn next(from: &mut Cursor) -> Option<K> {
+        match next_token(from)? {
+            Token::Word { text, .. } => K::from_text(text),
+            _ => None,
+        }
+    }
 }
 
 pub(crate) fn next_open(from: &mut Cursor) -> Option<()>
     ensures { MatchOption result ((more : List Part) → rest from.old ≢ opens ∷ more) (λ _. rest from.old ≡ opens ∷ rest from.new) }
 {
-    match next_token(from)? {
-        Token::Open => Some(()),
-        _ => None,
-    }
+    matches!(next_token(from)?, Token::Open).then_some(())
 }
 
 pub(crate) fn next_close(from: &mut Cursor) -> Option<()>
     ensures { MatchOption result ((more : List Part) → rest from.old ≢ closes ∷ more) (λ _. rest from.old ≡ closes ∷ rest from.new) }
 {
-    match next_token(from)? {
-        Token::Close => Some(()),
-        _ => None,
-    }
+    matches!(next_token(from)?, Token::Close).then_some(())
 }
 
 // Whether nothing is left.
@@ -69,4 +74,12 @@ pub(crate) fn is_done(from: &Cursor) -> bool
 {
     let mut ahead = *from;
     next_token(&mut ahead).is_none()
+}
+
+// Reads a value that is all that is left.
+pub(crate) fn last<T: FromParts>(from: &mut Cursor) -> Option<T>
+    ensures { MatchOption result ((x : T) → rest from.old ≢ T.parts x) (λ x. rest from.old ≡ T.parts x) }
+{
+    let value = T::next(from)?;
+    is_done(from).then_some(value)
 }

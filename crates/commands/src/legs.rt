@@ -1,27 +1,31 @@
 // The legs of an order.
-ghost use Rattle.std.specs.Prelude.{◌≡◌, List, [], ◌∷◌, ◌++◌, MatchOption, ◌≢◌};
+ghost use Rattle.std.specs.Prelude.{List, MatchOption, ◌≢◌, refl};
 ghost use Rattle.orders.specs.declared.records.LegTerms.{LegTerms};
 ghost use Rattle.commands.specs.Legs.{LegsRead, leg_parts, legs_parts};
-ghost use Rattle.commands.specs.Parts.{Part, rest};
+ghost use Rattle.commands.specs.Parts.{rest};
 
-use crate::fields::{is_done, next_close, next_keyword, next_number, next_open};
+use crate::fields::{FromParts, is_done, next_close, next_open};
 use lines::cursor::Cursor;
 use orders::records::{LegList, LegTerms};
 use strategy::leg::Side;
 
-fn next_leg(from: &mut Cursor) -> Option<LegTerms>
-    ensures { MatchOption result ((x : LegTerms) (more : List Part) → rest from.old ≢ leg_parts x ++ more) (λ x. rest from.old ≡ leg_parts x ++ rest from.new) }
-{
-    next_open(from)?;
-    let side = next_keyword::<Side>(from)?;
-    let ratio = next_number(from)?;
-    let series = next_number(from)?;
-    next_close(from)?;
-    Some(LegTerms {
-        side,
-        ratio,
-        series,
-    })
+impl FromParts for LegTerms {
+    ghost parts = { leg_parts };
+
+    ghost size = { 5 };
+
+    ghost sized = { λ _. refl };
+
+    fn next(from: &mut Cursor) -> Option<Self> {
+        next_open(from)?;
+        let leg = LegTerms {
+            side: Side::next(from)?,
+            ratio: i32::next(from)?,
+            series: i32::next(from)?,
+        };
+        next_close(from)?;
+        Some(leg)
+    }
 }
 
 // The legs up to the end of the line.
@@ -30,7 +34,7 @@ pub(crate) fn read_legs(from: &mut Cursor) -> Option<LegList>
 {
     let mut legs = LegList::new();
     while !is_done(from) {
-        legs.push(next_leg(from)?);
+        legs.push(LegTerms::next(from)?);
     }
     Some(legs)
 }

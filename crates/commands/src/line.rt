@@ -14,12 +14,7 @@ pub fn read_line(line: &[u8], feed: Feed) -> Result<Command, LineFault>
     ensures cut { (whole : List ℕ) → line.now ≡ take 513 whole → Answered feed whole result }
 {
     let mut from = Cursor::open(line)?;
-    let Some(command) = read_command(&mut from) else {
-        return Err(LineFault::Unknown);
-    };
-    if feed.takes(&command) {
-        Ok(command)
-    } else {
-        Err(LineFault::Unknown)
-    }
+    read_command(&mut from)
+        .filter(|command| feed.takes(command))
+        .ok_or(LineFault::Unknown)
 }

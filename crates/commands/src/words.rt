@@ -8,8 +8,8 @@ use orders::bell::Bell;
 use orders::records::Channel;
 use strategy::leg::{Kind, Side};
 
-// A closed set of words.
-pub trait Keyword: Sized {
+// A closed set of words. std's `FromStr` cannot be had by the types of other crates, and names no word.
+pub trait Keyword: Copy {
     ghost name: { Self → List ℕ };
 
     fn from_text(text: &str) -> Option<Self>
