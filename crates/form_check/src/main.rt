@@ -1,51 +1,44 @@
 // The operator's check of a file of lines: for each line its form again, or why it is refused.
 #![tactic(auto)]
 
+ghost use Rattle.std.specs.Prelude.{◌≡◌};
+
 use answers::answer::Answer;
 use commands::command::Feed;
 use commands::line::read_line;
-use input::source::LineSource;
+use service::answerer::{Answerer, serve};
+use service::program::finish;
 use std::io;
 use std::io::{BufWriter, Write};
 use std::process::ExitCode;
 
+// The lines of every market.
+const EVERY: Feed = Feed {
+    quotes: true,
+    levels: true,
+};
+
+#[derive(Drop)]
+struct Checker;
+
 // A form is written in one way only, so that the line itself is its text.
-fn answer<W: Write>(out: &mut W, line: &[u8]) -> io::Result<()> {
-    let feed = Feed {
-        quotes: true,
-        levels: true,
-    };
-    match read_line(line, feed) {
-        Ok(_) => out.write_all(line)?,
-        Err(fault) => out.write_all(Answer::from(fault).line().as_bytes())?,
+impl Answerer for Checker {
+    ghost becomes = { λ before _ after. after ≡ before };
+
+    fn answer<W: Write>(&mut self, line: &[u8], out: &mut W) -> io::Result<()> {
+        match read_line(line, EVERY) {
+            Ok(_) => out.write_all(line)?,
+            Err(fault) => out.write_all(Answer::from(fault).line().as_bytes())?,
+        }
+        out.write_all(b"\n")
     }
-    out.write_all(b"\n")
 }
 
-// Whatever was answered is written before the next line is waited for.
-fn run(rt: &HostRuntime) -> anyhow::Result<()> {
+fn check_lines(rt: &HostRuntime) -> io::Result<()> {
     let mut out = BufWriter::new(rt.alloc(), rt.stdout())?;
-    let mut source = LineSource::new(rt.stdin());
-    for _ in 0..u64::MAX {
-        if !source.take_line() {
-            out.flush()?;
-            if !source.read_line()? {
-                break;
-            }
-        }
-        answer(&mut out, source.line())?;
-    }
-    out.flush()?;
-    Ok(())
+    serve(&mut Checker, rt.stdin(), &mut out)
 }
 
-// What goes wrong with the input or the output is told in one line, and ends the program with status 1.
 fn main(rt: HostRuntime) -> ExitCode {
-    match run(&rt) {
-        Ok(()) => ExitCode::SUCCESS,
-        Err(error) => {
-            let _ = eprintln!(rt; "form_check: {error}");
-            ExitCode::FAILURE
-        }
-    }
+    finish(&rt, "form_check", check_lines(&rt))
 }

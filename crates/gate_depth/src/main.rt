@@ -1,24 +1,12 @@
 // The gate over the ladder: lines from standard input, answers to standard output.
 #![tactic(auto)]
 
-use session::desk::run;
-use std::io;
-use std::io::BufWriter;
+use service::program::finish;
+use session::program::answer_lines;
 use std::process::ExitCode;
 use venues::ladder::Ladder;
 
-fn answer_lines(rt: &HostRuntime) -> io::Result<()> {
-    let mut out = BufWriter::new(rt.alloc(), rt.stdout())?;
-    run(rt.alloc(), Ladder::new(), rt.stdin(), &mut out)
-}
-
-// What goes wrong is told in one line, and ends the program with status 1.
 fn main(rt: HostRuntime) -> ExitCode {
-    match answer_lines(&rt) {
-        Ok(()) => ExitCode::SUCCESS,
-        Err(error) => {
-            let _ = eprintln!(rt; "gate-depth: {error}");
-            ExitCode::FAILURE
-        }
-    }
+    let done = answer_lines(rt.alloc(), Ladder::new(), rt.stdin(), rt.stdout());
+    finish(&rt, "gate-depth", done)
 }

@@ -7,6 +7,7 @@ mod sheet;
 mod tests;
 
 use print::print_row;
+use service::program::finish;
 use sheet::rows;
 use std::process::ExitCode;
 use venues::board::Board;
@@ -19,13 +20,6 @@ fn run(rt: &HostRuntime) -> anyhow::Result<()> {
     Ok(())
 }
 
-// What goes wrong is told in one line, and ends the program with status 1.
 fn main(rt: HostRuntime) -> ExitCode {
-    match run(&rt) {
-        Ok(()) => ExitCode::SUCCESS,
-        Err(error) => {
-            let _ = eprintln!(rt; "price_check: {error}");
-            ExitCode::FAILURE
-        }
-    }
+    finish(&rt, "price_check", run(&rt))
 }

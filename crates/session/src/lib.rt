@@ -3,5 +3,6 @@
 
 pub mod desk;
 pub mod fault;
+pub mod program;
 pub mod session;
 pub mod venue;
