@@ -5,3 +5,4 @@ pub mod Short
 pub mod Worth
 pub mod Laws
 pub mod Unique
+pub mod Places
