@@ -1,15 +1,15 @@
 -- What a line buffer holds, and what its calls do.
-use Rattle.std.specs.Prelude.{◌≡◌, ℕ, ◌-◌, Bool, true, false, List, ◌++◌, length, take, drop}
+use Rattle.std.specs.Prelude.{◌≡◌, ℕ, Bool, true, false, List, ◌++◌, length, take, slice_range}
 use Rattle.input.specs.Breaks.{NoBreak, Splits}
 use Rattle.input.specs.declared.buffer.LineBuffer.{LineBuffer}
 
 -- the line that was handed on last
 abbrev pub line : LineBuffer → List ℕ
-line b = take b.len (drop b.at b.bytes)
+line b = slice_range b.bytes b.taken.start b.taken.end
 
 -- what came in and was not yet handed on
 abbrev pub waiting : LineBuffer → List ℕ
-waiting b = take (b.end - b.from) (drop b.from b.bytes)
+waiting b = slice_range b.bytes b.ahead.start b.ahead.end
 
 -- where a whole line waits it is handed on, and where none does nothing changes
 abbrev pub Takes : LineBuffer → LineBuffer → Bool → Type 0

@@ -1,13 +1,11 @@
 -- What a line source does, in terms of the bytes that wait in it and those that come in.
 use Rattle.std.specs.Prelude.{◌≡◌, ℕ, ◌<◌, Bool, true, false, ◌⊎◌, List, [], ◌∷◌, ◌++◌, length, take}
 use Rattle.input.specs.Breaks.{NoBreak}
-use Rattle.input.specs.declared.source.Progress.{Progress}
-use Rattle.input.specs.declared.source.Progress.TheVariants.{Going, Ended}
 
 -- some bytes came behind the first 513 of those that waited; none at the end of the input
-abbrev pub Grows : Progress → List ℕ → List ℕ → Type 0
-Grows Going before after = (came : List ℕ) × (after ≡ take 513 before ++ came)
-Grows Ended before after = after ≡ take 513 before
+abbrev pub Grows : Bool → List ℕ → List ℕ → Type 0
+Grows true before after = (came : List ℕ) × (after ≡ take 513 before ++ came)
+Grows false before after = after ≡ take 513 before
 
 -- the bytes are the line, its break and what comes after, or a last line that lacks its break
 abbrev pub Parts : List ℕ → List ℕ → List ℕ → Type 0

@@ -1,5 +1,7 @@
 // What came in and was not yet handed on, and the line that was handed on last.
-ghost use Rattle.std.specs.Prelude.{◌+◌, ◌≤◌};
+ghost use Rattle.std.specs.Prelude.{◌≤◌};
+
+use std::ops::Range;
 
 // how many bytes of a line are kept: one more than the longest line that is read has, so that a
 // longer one is still seen to be so
@@ -10,15 +12,14 @@ const CAPACITY: usize = 16384;
 #[derive(Drop)]
 pub(crate) struct LineBuffer {
     bytes: [u8; CAPACITY],
-    // the line: `len` bytes from `at` on
-    at: usize,
-    len: usize,
-    // what waits: the bytes from `from` up to `end`
-    from: usize,
-    end: usize,
-    ghost line_inside: { at + len ≤ 16384 },
-    ghost ordered: { from ≤ end },
-    ghost inside: { end ≤ 16384 },
+    // where the line stands
+    taken: Range<usize>,
+    // where what waits stands
+    ahead: Range<usize>,
+    ghost taken_ordered: { taken.start ≤ taken.end },
+    ghost taken_inside: { taken.end ≤ 16384 },
+    ghost ahead_ordered: { ahead.start ≤ ahead.end },
+    ghost ahead_inside: { ahead.end ≤ 16384 },
 }
 
 mod fill;

@@ -7,14 +7,6 @@ use crate::buffer::LineBuffer;
 use std::io;
 use std::io::{ErrorKind, Read};
 
-#[derive(Clone, Copy)]
-pub(crate) enum Progress {
-    // the input may have more
-    Going,
-    // the input has ended
-    Ended,
-}
-
 #[derive(Drop)]
 pub struct LineSource<R> {
     input: R,
@@ -38,7 +30,7 @@ impl<R: Read> LineSource<R> {
     }
 
     // The line that was taken or read last, without its line break; of a line over 513 bytes, the
-    // first 513.
+    // first 513. It is asked for by itself: a loop that hands out a line may not read on.
     pub fn line(&self) -> &[u8]
         ensures { result.now ≡ line self.now.held }
     {
@@ -53,20 +45,14 @@ impl<R: Read> LineSource<R> {
         self.held.take_line()
     }
 
-    // A signal that comes before any input is no error.
-    fn receive(&mut self) -> io::Result<Progress>
-        ensures { IfOk result (λ p. Grows p (waiting self.old.held) (waiting self.new.held)) }
+    // Takes in more of the input; false at its end. A signal that comes before any input is no error.
+    fn receive(&mut self) -> io::Result<bool>
+        ensures { IfOk result (λ more. Grows more (waiting self.old.held) (waiting self.new.held)) }
     {
         match self.held.receive(&mut self.input) {
-            Ok(0) => Ok(Progress::Ended),
-            Ok(_) => Ok(Progress::Going),
-            Err(e) => {
-                if e.kind() == ErrorKind::Interrupted {
-                    Ok(Progress::Going)
-                } else {
-                    Err(e)
-                }
-            }
+            Ok(n) => Ok(n > 0),
+            Err(e) if e.kind() == ErrorKind::Interrupted => Ok(true),
+            Err(e) => Err(e),
         }
     }
 
@@ -75,13 +61,13 @@ impl<R: Read> LineSource<R> {
     pub fn read_line(&mut self) -> io::Result<bool>
         ensures { IfOk result (λ some. Reads some (waiting self.old.held) (line self.new.held) (waiting self.new.held)) }
     {
+        // a reader need not end, but every loop must
         for _ in 0..u64::MAX {
             if self.held.take_line() {
                 return Ok(true);
             }
-            match self.receive()? {
-                Progress::Ended => return Ok(self.held.take_rest()),
-                Progress::Going => {}
+            if !self.receive()? {
+                return Ok(self.held.take_rest());
             }
         }
         Err(gave_up())

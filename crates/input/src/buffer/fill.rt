@@ -1,5 +1,5 @@
 // Filling the buffer.
-ghost use Rattle.std.specs.Prelude.{◌≡◌, ◌+◌, ◌≤◌, [], length, take, drop, IfOk, MatchResult};
+ghost use Rattle.std.specs.Prelude.{◌≡◌, ◌+◌, ◌≤◌, [], length, take, IfOk, MatchResult};
 ghost use Rattle.input.specs.Buffers.{line, waiting, Receives};
 
 use super::{CAPACITY, KEPT, LineBuffer};
@@ -13,26 +13,7 @@ fn read_behind<R: Read>(input: &mut R, bytes: &mut [u8; CAPACITY], at: usize) ->
     ensures len { length bytes.new ≡ 16384 }
     ensures room { IfOk result (λ n. at + n ≤ 16384) }
 {
-    input.read(&mut bytes[at..CAPACITY])
-}
-
-fn copied(part: &[u8]) -> [u8; KEPT]
-    requires { length part.now ≤ 513 }
-    ensures { take (length part.now) result ≡ part.now }
-{
-    let mut kept = [0; KEPT];
-    kept[0..part.len()].copy_from_slice(part);
-    kept
-}
-
-// Copies `n` bytes from `from` on to the front.
-fn move_front(bytes: &mut [u8; CAPACITY], from: usize, n: usize)
-    requires inside { from + n ≤ 16384 }
-    requires few { n ≤ 513 }
-    ensures { take n bytes.new ≡ take n (drop from bytes.old) }
-{
-    let kept = copied(&bytes[from..from + n]);
-    bytes[0..n].copy_from_slice(&kept[0..n]);
+    input.read(&mut bytes[at..])
 }
 
 impl LineBuffer {
@@ -40,15 +21,13 @@ impl LineBuffer {
     fn make_room(&mut self)
         ensures line { line self.new ≡ [] }
         ensures waiting { waiting self.new ≡ take 513 (waiting self.old) }
-        ensures front { self.new.from ≡ 0 }
+        ensures front { self.new.ahead.start ≡ 0 }
     {
-        let n = (self.end - self.from).min(KEPT);
-        let from = self.from;
-        move_front(&mut self.bytes, from, n);
-        self.at = 0;
-        self.len = 0;
-        self.from = 0;
-        self.end = n;
+        let from = self.ahead.start;
+        let n = self.waiting().len().min(KEPT);
+        self.bytes.copy_within(from..from + n, 0);
+        self.taken = 0..0;
+        self.ahead = 0..n;
     }
 
     // Takes in what the input has next, and answers how many bytes came: none at its end. To be
@@ -57,9 +36,9 @@ impl LineBuffer {
         ensures { MatchResult result (λ n. Receives (waiting self.old) (waiting self.new) n) (λ _. waiting self.new ≡ take 513 (waiting self.old)) }
     {
         self.make_room();
-        let end = self.end;
+        let end = self.ahead.end;
         let n = read_behind(input, &mut self.bytes, end)?;
-        self.end = end + n;
+        self.ahead.end = end + n;
         Ok(n)
     }
 }

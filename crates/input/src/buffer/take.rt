@@ -1,39 +1,16 @@
 // Taking lines out of what came in.
-ghost use Rattle.std.specs.Prelude.{◌≡◌, ℕ, ◌-◌, ◌<◌, ◌≤◌, [], length, take, MatchOption, ◌≢◌, nat_lt, slice_index};
+ghost use Rattle.std.specs.Prelude.{◌≡◌, [], length, take, MatchOption, nat_lt};
 ghost use Rattle.input.specs.Breaks.{NoBreak, BreakAt};
 ghost use Rattle.input.specs.Buffers.{line, waiting, Takes};
 
 use super::{CAPACITY, KEPT, LineBuffer};
-
-// How many bytes from the first on hold no line break, looked at four at a time.
-fn unbroken(bytes: &[u8]) -> usize
-    ensures inside { result ≤ length bytes.now }
-    ensures none { (k : ℕ) → k < result → slice_index bytes.now k ≢ 10 }
-{
-    let mut at = 0;
-    while bytes.len() - at >= 4 {
-        if bytes[at] == b'\n'
-            || bytes[at + 1] == b'\n'
-            || bytes[at + 2] == b'\n'
-            || bytes[at + 3] == b'\n'
-        {
-            break;
-        }
-        at += 4;
-    }
-    at
-}
+use memchr::memchr;
 
 // Where the first line break stands.
 fn break_at(bytes: &[u8]) -> Option<usize>
     ensures { MatchOption result (NoBreak bytes.now) (λ n. BreakAt bytes.now n) }
 {
-    for i in unbroken(bytes)..bytes.len() {
-        if bytes[i] == b'\n' {
-            return Some(i);
-        }
-    }
-    None
+    memchr(b'\n', bytes)
 }
 
 impl LineBuffer {
@@ -43,10 +20,8 @@ impl LineBuffer {
     {
         LineBuffer {
             bytes: [0; CAPACITY],
-            at: 0,
-            len: 0,
-            from: 0,
-            end: 0,
+            taken: 0..0,
+            ahead: 0..0,
         }
     }
 
@@ -54,31 +29,26 @@ impl LineBuffer {
     pub(crate) fn line(&self) -> &[u8]
         ensures { result.now ≡ line self.now }
     {
-        let (at, len) = (self.at, self.len);
-        &self.bytes[at..at + len]
+        &self.bytes[self.taken.start..self.taken.end]
     }
 
-    fn waiting(&self) -> &[u8]
-        ensures text { result.now ≡ waiting self.now }
-        ensures len { length result.now ≡ self.now.end - self.now.from }
+    pub(super) fn waiting(&self) -> &[u8]
+        ensures { result.now ≡ waiting self.now }
     {
-        let (from, end) = (self.from, self.end);
-        &self.bytes[from..end]
+        &self.bytes[self.ahead.start..self.ahead.end]
     }
 
     // Takes the next line, where all of it is here.
     pub(crate) fn take_line(&mut self) -> bool
         ensures { Takes self.old self.new result }
     {
-        match break_at(self.waiting()) {
-            Some(n) => {
-                self.at = self.from;
-                self.len = n.min(KEPT);
-                self.from += n + 1;
-                true
-            }
-            None => false,
-        }
+        let Some(n) = break_at(self.waiting()) else {
+            return false;
+        };
+        let from = self.ahead.start;
+        self.taken = from..from + n.min(KEPT);
+        self.ahead.start += n + 1;
+        true
     }
 
     // At the end of the input: takes what is left as the last line, where anything is.
@@ -87,10 +57,10 @@ impl LineBuffer {
         ensures line { line self.new ≡ take 513 (waiting self.old) }
         ensures waiting { waiting self.new ≡ [] }
     {
-        let left = self.waiting().len();
-        self.at = self.from;
-        self.len = left.min(KEPT);
-        self.from = self.end;
-        left > 0
+        let from = self.ahead.start;
+        let n = self.waiting().len();
+        self.taken = from..from + n.min(KEPT);
+        self.ahead.start = self.ahead.end;
+        n > 0
     }
 }

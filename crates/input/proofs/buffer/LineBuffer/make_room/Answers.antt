@@ -1,14 +1,8 @@
-use Rattle.std.proofs.Common.{◌≡◌, ◌-◌, take, drop, refl, ap, ◌∙◌, arith}
-use Rattle.input.proofs.Cuts.{take_min}
+use Rattle.std.proofs.Common.{arith}
+use Rattle.input.proofs.Cuts.{moved}
 use Rattle.input.proofs.buffer.LineBuffer.make_room.Goals as goal
 
-pub returns : goal.returns
-returns c =
+pub returns-clause-waiting : goal.returns-clause-waiting
+returns-clause-waiting c =
     let b = c.args.self.now in
-    let n = c.min-n.result in
-    let all : n - 0 ≡ n = omega arith in
-    record {
-      line = refl;
-      waiting = ap (λ k. take k c.move_front.new.bytes) all ∙ c.move_front.ensures ∙ ap (λ k. take k (drop b.from b.bytes)) c.min-n.ensures ∙ take_min (b.end - b.from) (drop b.from b.bytes);
-      front = refl;
-    }
+    moved b.ahead.start b.ahead.end c.min-n.result b.bytes c.copy_within.new.self (omega arith) (cc (c.waiting.ensures, c.min-n.ensures)) c.copy_within.ensures.after

@@ -10,9 +10,9 @@ returns g c =
     let told = c.in_ok-n.ensures in
     let front = c.make_room.ensures.front in
     record {
-      came = take n (drop b.end bytes);
+      came = take n (drop b.ahead.end bytes);
       count = simp (length-take, length-drop) (omega (arith, told.room, told.len));
       is =
-          from_zero b.from (b.end + n) bytes front ∙ take_both b.end n bytes
-          ∙ ap (λ xs. xs ++ take n (drop b.end bytes)) (told.front ∙ sym (from_zero b.from b.end b.bytes front) ∙ c.make_room.ensures.waiting);
+          from_zero b.ahead.start (b.ahead.end + n) bytes front ∙ take_both b.ahead.end n bytes
+          ∙ ap (λ xs. xs ++ take n (drop b.ahead.end bytes)) (told.front ∙ sym (from_zero b.ahead.start b.ahead.end b.bytes front) ∙ c.make_room.ensures.waiting);
     }
