@@ -5,7 +5,7 @@ ghost use Rattle.orders.specs.Phases.{after, rung, or_same};
 use crate::bell::Bell;
 use crate::fault::GateFault;
 
-#[derive(Clone, Copy)]
+#[derive(Clone, Copy, PartialEq, Eq)]
 pub enum Phase {
     Pre,
     Open,
