@@ -1,5 +1,6 @@
 // Writing answers.
-ghost use Rattle.std.specs.Prelude.{◌≡◌, ◌≤◌, [], ◌∷◌, length, pos, MatchResult};
+ghost use Rattle.std.specs.Prelude.{◌≡◌, ◌≤◌, map, length, pos, MatchResult};
+ghost use Rattle.std.specs.List.{AllByRecursion};
 ghost use Rattle.lines.specs.Forms.{word, number};
 ghost use Rattle.line_writer.specs.Areas.{Written, TooSmall};
 ghost use Rattle.line_writer.specs.Lines.{held, atom, render};
@@ -10,34 +11,15 @@ use line_writer::line::{Field, Line};
 use lines::fault::LineFault;
 use orders::fault::Layer;
 
-fn one(head: &str, a: Field) -> Line
+// A form with these fields. With up to six of them it is no longer than a line.
+fn form(head: &str, fields: &[Field]) -> Line
     requires head { length head.now ≤ 9 }
-    requires a { Short (atom a) }
-    ensures text { held result ≡ render head.now (atom a.entry ∷ []) }
-    ensures short { length (render head.now (atom a.entry ∷ [])) ≤ 160 }
+    requires few { length fields.now ≤ 6 }
+    requires short { AllByRecursion Short (map atom fields.now) }
+    ensures text { held result ≡ render head.now (map atom fields.now) }
+    ensures short { length (render head.now (map atom fields.now)) ≤ 160 }
 {
-    Line::form(head, &[a])
-}
-
-fn two(head: &str, a: Field, b: Field) -> Line
-    requires head { length head.now ≤ 9 }
-    requires a { Short (atom a) }
-    requires b { Short (atom b) }
-    ensures text { held result ≡ render head.now (atom a.entry ∷ atom b.entry ∷ []) }
-    ensures short { length (render head.now (atom a.entry ∷ atom b.entry ∷ [])) ≤ 160 }
-{
-    Line::form(head, &[a, b])
-}
-
-fn three(head: &str, a: Field, b: Field, c: Field) -> Line
-    requires head { length head.now ≤ 9 }
-    requires a { Short (atom a) }
-    requires b { Short (atom b) }
-    requires c { Short (atom c) }
-    ensures text { held result ≡ render head.now (atom a.entry ∷ atom b.entry ∷ atom c.entry ∷ []) }
-    ensures short { length (render head.now (atom a.entry ∷ atom b.entry ∷ atom c.entry ∷ [])) ≤ 160 }
-{
-    Line::form(head, &[a, b, c])
+    Line::form(head, fields)
 }
 
 fn count(n: u64) -> Field<'static>
@@ -66,10 +48,7 @@ fn price(value: Option<i64>) -> Field<'static>
     ensures is { atom result ≡ side value }
     ensures short { Short (atom result) }
 {
-    match value {
-        Some(n) => cents(n),
-        None => name("none"),
-    }
+    value.map_or(name("none"), cents)
 }
 
 // How a fault of the line layer is answered.
@@ -92,38 +71,32 @@ impl Answer {
         ensures short { length (said self) ≤ 160 }
     {
         match self {
-            Answer::Series(n) => one("series", count(u64::from(n))),
-            Answer::Notice(n) => one("notice", count(u64::from(n))),
-            Answer::Quote(series) => one("quote", count(u64::from(series))),
-            Answer::Level(series) => one("level", count(u64::from(series))),
-            Answer::Order { number, class } => two(
-                "order",
-                count(u64::from(number)),
-                name(class.word()),
-            ),
-            Answer::Phase { bell, units } => two("phase", name(bell.word()), count(units)),
-            Answer::Cancel(units) => one("cancel", count(units)),
-            Answer::Work { units, net } => two("work", count(units), cents(net)),
+            Answer::Series(n) => form("series", &[count(u64::from(n))]),
+            Answer::Notice(n) => form("notice", &[count(u64::from(n))]),
+            Answer::Quote(series) => form("quote", &[count(u64::from(series))]),
+            Answer::Level(series) => form("level", &[count(u64::from(series))]),
+            Answer::Order { number, class } => {
+                form("order", &[count(u64::from(number)), name(class.word())])
+            }
+            Answer::Phase { bell, units } => form("phase", &[name(bell.word()), count(units)]),
+            Answer::Cancel(units) => form("cancel", &[count(units)]),
+            Answer::Work { units, net } => form("work", &[count(units), cents(net)]),
             Answer::Sweep {
                 lines,
                 units,
                 outcome,
-            } => three(
+            } => form(
                 "sweep",
-                count(u64::from(lines)),
-                count(units),
-                name(outcome.word()),
+                &[count(u64::from(lines)), count(units), name(outcome.word())],
             ),
-            Answer::Net { bid, offer } => two("net", price(bid), price(offer)),
+            Answer::Net { bid, offer } => form("net", &[price(bid), price(offer)]),
             Answer::Refused {
                 number,
                 layer,
                 place,
-            } => three(
+            } => form(
                 "refused",
-                count(u64::from(number)),
-                name(layer.word()),
-                count(place),
+                &[count(u64::from(number)), name(layer.word()), count(place)],
             ),
         }
     }
