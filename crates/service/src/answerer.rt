@@ -17,11 +17,8 @@ pub trait Answerer {
         ensures { becomes self.old line.now self.new };
 }
 
-fn gave_up() -> io::Error {
-    io::Error::new(ErrorKind::TimedOut, "gave up after 2^64 lines")
-}
-
-// Gets the next line. Whatever was answered is written before that line is waited for.
+// Gets the next line. Whatever was answered is written before that line is waited for. The line itself isn't handed out: no contract could then
+// say what the source becomes.
 fn next_line<R: Read, W: Write>(source: &mut LineSource<R>, out: &mut W) -> io::Result<bool>
     ensures { IfOk result (λ some. Reads some (waiting source.old.held) (line source.new.held) (waiting source.new.held)) }
 {
@@ -47,5 +44,5 @@ pub fn serve<T: Answerer, R: Read + Drop, W: Write>(
         }
         answerer.answer(source.line(), out)?;
     }
-    Err(gave_up())
+    Err(io::Error::new(ErrorKind::TimedOut, "gave up after 2^64 lines"))
 }
