@@ -16,8 +16,6 @@ use Rattle.orders.specs.declared.fault.GateFault.{GateFault}
 use Rattle.orders.specs.declared.fault.GateFault.TheVariants as gate
 use Rattle.orders.specs.declared.records.LegList.{LegList}
 use Rattle.orders.specs.Checks.{map_ok}
-use Rattle.orders.specs.declared.outcome.Outcome as ended
-use Rattle.orders.specs.declared.outcome.Outcome.TheVariants as end
 use Rattle.days.specs.declared.call.Call.{Call}
 use Rattle.days.specs.declared.call.Call.TheVariants as call
 use Rattle.days.specs.declared.reply.Reply.{Reply}
@@ -38,7 +36,7 @@ answer_of (reply.Phase bell units) = answer.Phase bell units
 answer_of (reply.Order x) = answer.Order x.number x.class
 answer_of (reply.Cancel units) = answer.Cancel units
 answer_of (reply.Work x) = answer.Work x.units x.net
-answer_of (reply.Sweep x) = answer.Sweep x.lines x.units (outcome_of x.outcome)
+answer_of (reply.Sweep x) = answer.Sweep x.lines x.units x.outcome
 
 -- a line of another market is none that is known
 abbrev pub market_answer : Option (Result Answer MarketFault) → Answer

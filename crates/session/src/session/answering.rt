@@ -3,7 +3,7 @@ ghost use Rattle.std.specs.Prelude.{◌≡◌, MatchResult};
 ghost use Rattle.line_writer.specs.Areas.{TooSmall};
 ghost use Rattle.gate_calls.specs.Model.{state};
 ghost use Rattle.gate_calls.specs.Promises.{netting};
-ghost use Rattle.session.specs.Answering.{told, outcome_of, answer_of, net_answer, Makes, Updates, Obeys, Does, Answers};
+ghost use Rattle.session.specs.Answering.{told, answer_of, net_answer, Makes, Updates, Obeys, Does, Answers};
 ghost use Rattle.session.specs.Days.{HandsOn};
 ghost use Rattle.session.specs.Views.{view};
 
@@ -18,7 +18,6 @@ use days::reply::Reply;
 use gate_calls::gate::Gate;
 use line_writer::line::CAPACITY;
 use lines::fault::LineFault;
-use orders::outcome::Outcome;
 use orders::records::LegList;
 
 // The lines of every market.
@@ -60,7 +59,7 @@ fn answer_of(reply: Reply) -> Answer
         Reply::Sweep(tally) => Answer::Sweep {
             lines: u32::from(tally.lines),
             units: u64::from(tally.units),
-            outcome: said_outcome(tally.outcome),
+            outcome: tally.outcome,
         },
     }
 }
