@@ -11,6 +11,7 @@ use strategy::class::Strategy;
 use strategy::leg::{Kind, Leg, Side};
 use strategy::legs::Legs;
 use strategy::price::{check_execution, check_limit};
+use strategy::word::Word;
 use venues::board::Board;
 
 // The refusal of an execution that the protections prevent.

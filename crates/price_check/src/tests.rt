@@ -4,6 +4,7 @@ use std::process::Abort;
 use strategy::class::Strategy;
 use strategy::leg::{Kind, Leg, Series};
 use strategy::legs::Legs;
+use strategy::word::Word;
 
 fn is(rt: &impl Abort, legs: Legs<Leg>, class: &str, width: u32, turned: bool) {
     let strategy = Strategy::of(&legs);

@@ -7,6 +7,7 @@ ghost use Rattle.strategy.specs.Forms.{vertical, calendar, butterfly, box, IsBou
 
 use crate::leg::{Kind, Leg, Series, Side};
 use crate::legs::{Legs, flipped_legs};
+use crate::word::Word;
 
 #[derive(Clone, Copy)]
 pub enum Class {
@@ -18,12 +19,10 @@ pub enum Class {
     Other,
 }
 
-impl Class {
-    // The word for the class in output.
-    pub fn word(self) -> &'static str
-        ensures text { result.now ≡ class_name self }
-        ensures short { length result.now ≤ 9 }
-    {
+impl Word for Class {
+    ghost name = { class_name };
+
+    fn word(self) -> &'static str {
         match self {
             Class::Bought => "bought",
             Class::Vertical => "vertical",

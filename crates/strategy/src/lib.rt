@@ -5,3 +5,4 @@ pub mod class;
 pub mod leg;
 pub mod legs;
 pub mod price;
+pub mod word;

@@ -10,6 +10,7 @@ use super::Answer;
 use line_writer::line::{Field, Line};
 use lines::fault::LineFault;
 use orders::fault::Layer;
+use strategy::word::Word;
 
 // A form with these fields. With up to six of them it is no longer than a line.
 fn form(head: &str, fields: &[Field]) -> Line
