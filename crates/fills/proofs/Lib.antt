@@ -1,4 +1,4 @@
-pub mod Steps
 pub mod Units
-pub mod Quotes
+pub mod Legs
 pub mod Fillings
+pub mod Quotes

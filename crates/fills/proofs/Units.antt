@@ -1,23 +1,20 @@
 -- How many units a fill has, and that the market has them.
 use Rattle.std.proofs.Common.{◌≡◌, ℕ, zero, suc, ◌+◌, ◌*◌, ◌/◌, ◌<◌, ◌≤◌, min, Bool, true, false, cond, ◌&&◌, ltb, leb, List, [], ◌∷◌, ℤ, is_some, Some, None, Option, sym, refl, ap, ◌∙◌, le_trans, mul-le-mul_left, mul-zero, arith}
 use native.Mathlib.Nat.{mul-div-le}
-use Rattle.std.specs.List.{AllByRecursion}
+use Rattle.std.specs.List.{AllByRecursion, position_from}
 use Rattle.std.proofs.lemmas.Nat.{le-div, mul-le}
 use Rattle.std.proofs.lemmas.Bool.{and_parts, and_from, leb-true, le-leb, lt-ltb, ltb-false, cond-true}
 use Rattle.strategy.specs.declared.legs.Legs.{Legs}
 use Rattle.strategy.specs.Few.{listed}
 use Rattle.market.specs.declared.quote.QuoteSide.{QuoteSide}
-use Rattle.market.specs.declared.quote.QuoteSide.TheVariants.{Bid, Offer}
-use Rattle.market.specs.declared.quote.TwoSided.{TwoSided}
-use Rattle.market.specs.Sides.{side_of}
 use Rattle.market.specs.declared.quote.Level.{Level}
 use Rattle.market.specs.declared.leg.TradedLeg.{TradedLeg}
 use Rattle.market.specs.Levels.{Levels, best_of, can_take}
-use Rattle.market.specs.Net.{used_side, part_of, plus, net_side, net_market}
+use Rattle.market.specs.Net.{used_side, part_of, plus, net_side}
 use Rattle.market.specs.Takes.{leg_ready, all_ready, distinct, can_take_legs, legs_taken}
 use Rattle.market.proofs.Replaced.{refused_same}
 use Rattle.orders.specs.SoundLegs.{ratios_in_range, sound}
-use Rattle.fills.specs.Fills.{level_of, used_level, lacking_from, lacking, allowed}
+use Rattle.fills.specs.Fills.{level_of, used_level, allowed}
 
 none_from : (t : Bool) (n : ℕ) (r : Option ℕ) → cond t (Some n) r ≡ None → (t ≡ false) × (r ≡ None)
 none_from true n r e = let z : ◌≡◌ {A = ℕ} 0 1 = cc in absurd (omega arith)
@@ -34,25 +31,29 @@ both_there g (Some best) None h k e = e
 both_there g (Some best) (Some x) h k e = refl
 
 module _ (b : Levels) (q : QuoteSide) where
+  -- the first leg, counted from n, that lacks its ratio
+  abbrev first : ℕ → List TradedLeg → Option ℕ
+  first n gs = position_from (λ g. ltb (used_level b q g).size g.ratio) n gs
+
   pub units_within : (u : ℕ) (gs : List TradedLeg) → allowed b q u gs ≤ u
   units_within u [] = omega arith
   units_within u (g ∷ gs) = let h = units_within (min ((used_level b q g).size / g.ratio) u) gs in omega arith
 
-  pub units_some : (n u : ℕ) (gs : List TradedLeg) → 0 < u → ratios_in_range gs ≡ true → lacking_from n b q gs ≡ None → 0 < allowed b q u gs
+  pub units_some : (n u : ℕ) (gs : List TradedLeg) → 0 < u → ratios_in_range gs ≡ true → first n gs ≡ None → 0 < allowed b q u gs
   units_some n u [] h e k = h
   units_some n u (g ∷ gs) h e k =
       let r = ratio_first g gs e in
-      let p = none_from (ltb (used_level b q g).size g.ratio) n (lacking_from (n + 1) b q gs) k in
+      let p = none_from (ltb (used_level b q g).size g.ratio) n (first (n + 1) gs) k in
       let s : g.ratio ≤ (used_level b q g).size = ltb-false (used_level b q g).size g.ratio p.0 in
       let m : 1 ≤ (used_level b q g).size / g.ratio = le-div 1 (used_level b q g).size g.ratio r.0 (omega arith) in
       units_some (n + 1) (min ((used_level b q g).size / g.ratio) u) gs (omega arith) r.1 p.1
 
   -- where every leg has its ratio there is a net price
-  pub net_there : (n : ℕ) (gs : List TradedLeg) → ratios_in_range gs ≡ true → lacking_from n b q gs ≡ None → is_some (net_side b gs q) ≡ true
+  pub net_there : (n : ℕ) (gs : List TradedLeg) → ratios_in_range gs ≡ true → first n gs ≡ None → is_some (net_side b gs q) ≡ true
   net_there n [] e k = refl
   net_there n (g ∷ gs) e k =
       let r = ratio_first g gs e in
-      let p = none_from (ltb (used_level b q g).size g.ratio) n (lacking_from (n + 1) b q gs) k in
+      let p = none_from (ltb (used_level b q g).size g.ratio) n (first (n + 1) gs) k in
       both_there g (best_of (b g.series (used_side g.side q))) (net_side b gs q) r.0 (ltb-false (used_level b q g).size g.ratio p.0) (net_there (n + 1) gs r.1 p.1)
 
   -- so many units are in every leg's first level
@@ -76,16 +77,6 @@ module _ (b : Levels) (q : QuoteSide) where
   none_of : (ls : List Level) (r : ℕ) → can_take ls (r * 0) ≡ false
   none_of [] r = refl
   none_of (l ∷ ls) r = rw (mul-zero r)
-
-side_net : (b : Levels) (gs : List TradedLeg) (q : QuoteSide) → side_of (net_market b gs) q ≡ net_side b gs q
-side_net b gs Bid = refl
-side_net b gs Offer = refl
-
--- a net price, from the legs of an order and a search that finds none lacking
-pub priced : (b : Levels) (q : QuoteSide) (legs given : Legs TradedLeg) (gs : List TradedLeg) (lack : Option ℕ) (net : Option ℤ) (both : TwoSided ℤ) → sound (listed legs) ≡ true → given ≡ legs → gs ≡ listed given → lack ≡ lacking b q gs → lack ≡ None → both ≡ net_market b (listed given) → net ≡ side_of both q → is_some net ≡ true
-priced b q legs given gs lack net both s eg es el none eb en =
-    ap is_some (en ∙ ap (λ m. side_of m q) eb ∙ side_net b (listed given) q)
-    ∙ net_there b q 1 (listed given) (and_parts (ratios_in_range (listed given)) (distinct (listed given)) (ap (λ l. sound (listed l)) eg ∙ s)).0 (ap (lacking b q) (sym es) ∙ sym el ∙ none)
 
 -- no units take nothing
 none_taken : (b : Levels) (q : QuoteSide) (gs : List TradedLeg) → legs_taken b q 0 gs ≡ b

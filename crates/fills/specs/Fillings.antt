@@ -31,19 +31,23 @@ filling_at b o remaining net = record {
 }
 
 -- what comes of a net price; there is one wherever no leg lacks a market
-abbrev pub priced : Option ℤ → (ℤ → Result Filling GateFault) → Result Filling GateFault
+abbrev pub priced : {A : Type 0} → Option ℤ → (ℤ → Result A GateFault) → Result A GateFault
 priced None next = Err (NoMarket 0)
 priced (Some net) next = next net
 
--- what an order would get at a net price
-abbrev pub filling_for : Levels → Terms → ℕ → Buffers → ℤ → Result Filling GateFault
-filling_for b o remaining buffers net =
+-- refused at a net price, or what it fills there
+abbrev pub decided_at : {A : Type 0} → Terms → Buffers → (ℤ → A) → ℤ → Result A GateFault
+decided_at o buffers fill net =
     check (not (past_limit o.side net o.limit)) Limit (
     check (not (prevented_of o.class o.width o.side net buffers)) Prevented (
-    Ok (filling_at b o remaining net)))
+    Ok (fill net)))
+
+-- refused, or what the order fills at the net price that it takes
+abbrev pub decided : {A : Type 0} → Levels → Terms → Buffers → (ℤ → A) → Result A GateFault
+decided b o buffers fill =
+    check_at (lacking b (taken_side o.side) o.legs) NoMarket (
+    priced (net_side b o.legs (taken_side o.side)) (decided_at o buffers fill))
 
 -- what an order of which some units remain would get
 abbrev pub filling : Levels → Terms → ℕ → Buffers → Result Filling GateFault
-filling b o remaining buffers =
-    check_at (lacking b (taken_side o.side) o.legs) NoMarket (
-    priced (net_side b o.legs (taken_side o.side)) (filling_for b o remaining buffers))
+filling b o remaining buffers = decided b o buffers (filling_at b o remaining)

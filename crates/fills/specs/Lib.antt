@@ -1,4 +1,5 @@
 pub mod Fills
-pub mod FillLaws
 pub mod Fillings
 pub mod FillingLaws
+pub mod Quotes
+pub mod FillLaws

@@ -3,7 +3,7 @@ ghost use Rattle.std.specs.Prelude.{◌≡◌, List, IfOk};
 ghost use Rattle.strategy.specs.declared.leg.Leg.{Leg};
 ghost use Rattle.strategy.specs.Forms.{Long};
 ghost use Rattle.fills.specs.FillLaws.{Filled, FillLaw, LowBuyFills};
-ghost use Rattle.fills.specs.Fills.{quoted, executed};
+ghost use Rattle.fills.specs.Quotes.{quoted, executed};
 
 use crate::fill::Fill;
 use crate::quotation::{quotation, taken_side};

@@ -1,9 +1,13 @@
-use Rattle.std.proofs.Common.{◌≡◌, Ok, Err, Result, rules}
+use Rattle.std.proofs.Common.{◌≡◌, Ok, Err, Result, is_some, sym, ap, ◌∙◌, rules}
+use Rattle.std.proofs.lemmas.Bool.{and_parts}
+use Rattle.strategy.specs.Few.{listed}
+use Rattle.market.specs.Takes.{distinct}
+use Rattle.orders.specs.SoundLegs.{ratios_in_range}
 use Rattle.orders.specs.declared.fault.GateFault.{GateFault}
 use Rattle.orders.specs.declared.fault.GateFault.TheVariants.{Prevented}
 use Rattle.fills.specs.declared.fill.Fill.{Fill}
-use Rattle.fills.specs.Fills.{quoted}
-use Rattle.fills.proofs.Units.{priced}
+use Rattle.fills.specs.Quotes.{quoted}
+use Rattle.fills.proofs.Units.{net_there}
 use Rattle.fills.proofs.Quotes.{filled, fill_law, low_buy}
 use Rattle.fills.proofs.quotation.quotation.Goals as goal
 
@@ -28,5 +32,6 @@ returns g c =
 
 pub unwrap-net-requires : goal.unwrap-net-requires
 unwrap-net-requires g c =
-    priced (g.M.Market.levels c.args.market.now) c.taken_side-side.result c.args.order.now.legs.legs c.as_legs-legs.result c.as_slice.result.now c.lacking_leg.result c.side.result c.net_market.result
-    c.args.order.now.legs.sound c.as_legs-legs.ensures.value c.as_slice.ensures.value c.lacking_leg.ensures c.in_default.is c.net_market.ensures c.side.ensures
+    let legs = listed c.as_legs-legs.result in
+    let ratios = (and_parts (ratios_in_range legs) (distinct legs) c.as_legs-legs.ensures.sound).0 in
+    ap is_some c.net_price.ensures ∙ net_there (g.M.Market.levels c.args.market.now) c.taken_side-side.result 1 legs ratios (sym c.lacking_leg.ensures ∙ c.in_default.is)
