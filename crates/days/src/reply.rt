@@ -1,4 +1,7 @@
 // What the gate answers.
+ghost use Rattle.std.specs.Prelude.{◌≡◌};
+
+use fills::fill::Fill;
 use orders::bell::Bell;
 use orders::outcome::Outcome;
 use strategy::class::Class;
@@ -15,6 +18,17 @@ pub struct Acceptance {
 pub struct Execution {
     pub units: u16,
     pub net: i32,
+}
+
+impl From<Fill> for Execution {
+    ghost from_gives = { λ f r. r ≡ record { units = f.units; net = f.net } };
+
+    fn from(fill: Fill) -> Self {
+        Execution {
+            units: fill.units,
+            net: fill.net,
+        }
+    }
 }
 
 // The lines and the units that a sweep added to the tape, and how it ended.

@@ -1,15 +1,20 @@
 -- The notice in force, a full tape, and numbers that no order has.
-use Rattle.std.proofs.Common.{◌≡◌, ℕ, suc, ◌-◌, ◌^◌, ◌<◌, ◌≤◌, min, true, false, leb, List, [], ◌∷◌, length, get_or, ℤ, pos, negsuc, None, sym, refl, ap, ◌∙◌, ⊎_elim, arith}
+use Rattle.std.proofs.Common.{◌≡◌, ℕ, suc, ◌-◌, ◌^◌, ◌<◌, min, true, false, leb, List, [], ◌∷◌, length, get_or, ℤ, pos, negsuc, Some, None, Ok, Err, Option, Result, sym, refl, ap, ◌∙◌, subst, ⊎_elim, arith}
 use Rattle.std.specs.Int.{FitsUnsignedBits}
+use Rattle.std.specs.List.{slice_get}
+use Rattle.std.specs.Option.{UnwrapsOrElse, ok_or}
+use Rattle.std.specs.Result.{OkIff, result_ok}
+use Rattle.std.proofs.lemmas.Option.{slice_get-get_or}
 use Rattle.std.proofs.lemmas.Bool.{cases_lt, le-leb, lt-leb, leb-true, leb-false}
 use Rattle.strategy.specs.declared.price.Buffers.{Buffers}
+use Rattle.orders.proofs.Checked.{err_ok, some_none}
 use Rattle.book.specs.declared.book.Book.{Book}
 use Rattle.book.specs.Books.{resting, in_use}
 use Rattle.book.proofs.Looks.{look_high}
 use Rattle.days.specs.State.{last_of, lookup}
 
 -- the last of some notices
-pub last_at : (b : Buffers) (xs : List Buffers) (d : Buffers) → 0 < length xs → get_or xs (length xs - 1) d ≡ last_of b xs
+last_at : (b : Buffers) (xs : List Buffers) (d : Buffers) → 0 < length xs → get_or xs (length xs - 1) d ≡ last_of b xs
 last_at b [] d h = absurd (omega arith)
 last_at b (x ∷ []) d h = refl
 last_at b (x ∷ (y ∷ ys)) d h =
@@ -17,9 +22,11 @@ last_at b (x ∷ (y ∷ ys)) d h =
     let rest : length ys ≡ length (y ∷ ys) - 1 = omega arith in
     ap (λ i. get_or (x ∷ (y ∷ ys)) i d) past ∙ ap (λ i. get_or (y ∷ ys) i d) rest ∙ last_at x (y ∷ ys) d (omega arith)
 
-pub none_at : (b : Buffers) (xs : List Buffers) → length xs ≤ 0 → b ≡ last_of b xs
-none_at b [] h = refl
-none_at b (x ∷ xs) h = absurd (omega arith)
+-- the last of some notices, or those by default
+pub last_or_zeros : (b : Buffers) (P : Buffers → Type 0) (v : Option Buffers) (xs : List Buffers) (r : Buffers) → UnwrapsOrElse v P r → v ≡ slice_get xs (length xs - 1) → (P r → r ≡ b) → r ≡ last_of b xs
+last_or_zeros b P v [] r h is zeros = zeros (subst (λ w. UnwrapsOrElse w P r) is h)
+last_or_zeros b P v (x ∷ xs) r h is zeros =
+    subst (λ w. UnwrapsOrElse w P r) (is ∙ slice_get-get_or (x ∷ xs) (length (x ∷ xs) - 1) b (omega arith)) h ∙ last_at b (x ∷ xs) b (omega arith)
 
 -- a tape without room, or with room and many lines or few
 module _ (room lines all : ℕ) (same : all ≡ lines) where
@@ -33,6 +40,16 @@ module _ (room lines all : ℕ) (same : all ≡ lines) where
       (λ few. lt-leb 4096 lines few ∙ sym (lt-leb (min 4096 room) all (omega arith)))
       (λ many. le-leb 4096 lines many ∙ sym (le-leb (min 4096 room) all (omega arith)))
       (cases_lt lines 4096)
+
+-- no value came, so what a value needs does not hold
+pub no_value : {A E : Type 0} (r : Result A E) (P : Type 0) (v : A) → result_ok r ≡ None → OkIff r P v → P → ⊥
+no_value (Ok x) P v none h = absurd (some_none x none)
+no_value (Err e) P v none h = h
+
+-- a refusal for want of a value
+pub missing : {A E : Type 0} (v : Option A) (refusal e : E) → ok_or v refusal ≡ Err e → (v ≡ None) × (e ≡ refusal)
+missing None refusal e is = (refl, cc)
+missing (Some x) refusal e is = absurd (err_ok e x (sym is))
 
 -- a number past 16 bits, or below 0, is that of no order
 pub none_named : (b : Book) (z : ℤ) → (FitsUnsignedBits 16 z → ⊥) → lookup (resting b) z ≡ None

@@ -33,26 +33,22 @@ pub(super) struct PlacedOrder {
 fn limit_verdict(order: &TurnedOrder, options: &Legs<Leg>, buffers: Buffers) -> Option<Refusal>
     ensures { result ≡ limit_verdict order.now.limit (listed options.now) (terms_of order.now) buffers }
 {
-    let strategy = Strategy {
-        class: order.class,
-        width: order.width,
-        turned: false,
-    };
-    match order.limit {
-        Some(limit) => strategy.limit_refusal(options, order.side, i64::from(limit), buffers),
-        None => None,
-    }
+    order.limit.and_then(|limit| {
+        order
+            .strategy()
+            .limit_refusal(options, order.side, i64::from(limit), buffers)
+    })
 }
 
 // An exempt order skips the checks of Minimum and Maximum but for all bought.
 fn price_fault(refusal: Option<Refusal>, channel: Channel) -> Option<GateFault>
     ensures { result ≡ price_fault refusal channel }
 {
-    match (refusal, channel) {
-        (Some(Refusal::BoughtBelowMinimum), _) => Some(GateFault::BoughtBelowMinimum),
-        (Some(Refusal::BelowMinimum), Channel::Plain) => Some(GateFault::BelowMinimum),
-        (Some(Refusal::AboveMaximum), Channel::Plain) => Some(GateFault::AboveMaximum),
-        _ => None,
+    match (refusal?, channel) {
+        (Refusal::BoughtBelowMinimum, _) => Some(GateFault::BoughtBelowMinimum),
+        (Refusal::BelowMinimum, Channel::Plain) => Some(GateFault::BelowMinimum),
+        (Refusal::AboveMaximum, Channel::Plain) => Some(GateFault::AboveMaximum),
+        (_, Channel::Exempt) => None,
     }
 }
 
@@ -123,9 +119,7 @@ impl Gate<'_> {
         if self.is_closed() {
             return Err(GateFault::Phase);
         }
-        let Some(order) = self.resting(number) else {
-            return Err(GateFault::NotResting);
-        };
+        let order = self.resting(number).ok_or(GateFault::NotResting)?;
         let _ = self.book.remove(order.number);
         Ok(order.remaining)
     }

@@ -11,39 +11,22 @@ use orders::bell::Bell;
 use orders::fault::GateFault;
 use orders::phase::Phase;
 use orders::records::{NoticeTerms, SeriesTerms};
-use strategy::leg::Series;
-use strategy::price::{Buffer, Buffers};
+use strategy::price::Buffers;
 
 const MOST_NOTICES: usize = 64;
-
-const ZERO: Buffer = Buffer {
-    minimum: 0,
-    absolute: 0,
-    percentage: 0,
-};
 
 impl Gate<'_> {
     pub(super) fn is_closed(&self) -> bool
         ensures { result ≡ is_closed (state self.now).phase }
     {
-        match self.phase {
-            Phase::Closed => true,
-            _ => false,
-        }
+        matches!(self.phase, Phase::Closed)
     }
 
     // The buffers of the last notice; notice 0 is all zeros.
     pub(super) fn in_force(&self) -> Buffers
         ensures { result ≡ in_force (state self.now).notices }
     {
-        match self.notices.as_slice().last() {
-            Some(buffers) => *buffers,
-            None => Buffers {
-                vertical: ZERO,
-                butterfly: ZERO,
-                boxes: ZERO,
-            },
-        }
+        self.notices.as_slice().last().copied().unwrap_or_default()
     }
 
     pub(super) fn list(&mut self, terms: SeriesTerms) -> Result<u16, GateFault>
@@ -69,9 +52,9 @@ impl Gate<'_> {
         if posted >= MOST_NOTICES {
             return Err(GateFault::NoticesFull);
         }
-        let Ok(()) = self.notices.push(buffers) else {
-            return Err(GateFault::NoticesFull);
-        };
+        self.notices
+            .push(buffers)
+            .map_err(|_| GateFault::NoticesFull)?;
         Ok(posted as u8 + 1)
     }
 

@@ -31,15 +31,6 @@ struct MatchedOrder {
     fill: Fill,
 }
 
-fn execution(fill: Fill) -> Execution
-    ensures { (result.units ≡ fill.units) × (result.net ≡ fill.net) }
-{
-    Execution {
-        units: fill.units,
-        net: fill.net,
-    }
-}
-
 // The tape line of a fill under a notice.
 fn tape_line(order: &RestingOrder, fill: Fill, notice: usize) -> TapeLine
     ensures { line_of result ≡ line_for (resting_of order.now) notice (filling_of fill) }
@@ -59,10 +50,7 @@ impl Gate<'_> {
     pub(super) fn is_open(&self) -> bool
         ensures { result ≡ is_open (state self.now).phase }
     {
-        match self.phase {
-            Phase::Open => true,
-            _ => false,
-        }
+        matches!(self.phase, Phase::Open)
     }
 
     pub(super) fn is_tape_full(&self) -> bool
@@ -76,10 +64,8 @@ impl Gate<'_> {
         ensures is { rest result ≡ lookup (state self.now).order number }
         ensures named { IfSome result (λ o. number ≡ pos o.number) }
     {
-        match u16::try_from(number) {
-            Ok(number) => self.book.find(number),
-            Err(_) => None,
-        }
+        let number = u16::try_from(number).ok()?;
+        self.book.find(number)
     }
 
     // What work does with a resting order, a full tape set aside.
@@ -118,15 +104,13 @@ impl Gate<'_> {
         if !self.is_open() {
             return Err(GateFault::Phase);
         }
-        let Some(order) = self.resting(number) else {
-            return Err(GateFault::NotResting);
-        };
+        let order = self.resting(number).ok_or(GateFault::NotResting)?;
         if self.is_tape_full() {
             return Err(GateFault::TapeFull);
         }
         let fill = self.quote(&order, market)?;
         self.settle(order, fill, market);
-        Ok(execution(fill))
+        Ok(fill.into())
     }
 
     // The lowest-numbered order that work would fill, a full tape set aside, with its fill.

@@ -1,12 +1,15 @@
-use Rattle.std.proofs.Common.{ap, ◌∙◌}
-use Rattle.days.specs.State.{in_force, notice0}
-use Rattle.gate_calls.proofs.Parts.{last_at, none_at}
+use Rattle.std.proofs.Common.{◌≡◌, ap, ◌∙◌}
+use Rattle.strategy.specs.declared.price.Buffer.{Buffer}
+use Rattle.days.specs.State.{zero_buffer, in_force, notice0}
+use Rattle.gate_calls.proofs.Parts.{last_or_zeros}
 use Rattle.gate_calls.proofs.gate.Gate.in_force.Goals as goal
 
-pub returns-in-Some : goal.returns-in-Some
-returns-in-Some c =
-    let item = c.in-Some.ensures.item in
-    item.1 ∙ last_at notice0 c.as_slice.result.now c.in-Some.buffers.now item.3.0 ∙ ap in_force c.as_slice.ensures
+all_zero : (b : Buffer) → (b.minimum ≡ 0) × ((b.absolute ≡ 0) × (b.percentage ≡ 0)) → b ≡ zero_buffer
+all_zero b z = λ i. record { minimum = z.0 i; absolute = z.1.0 i; percentage = z.1.1 i }
 
-pub returns-in-None : goal.returns-in-None
-returns-in-None c = none_at notice0 c.as_slice.result.now c.in-None.ensures.item.3 ∙ ap in_force c.as_slice.ensures
+pub returns : goal.returns
+returns c =
+    let r = c.unwrap_or_default.result in
+    last_or_zeros notice0 _ _ c.as_slice.result.now r c.unwrap_or_default.ensures (c.copied.ensures ∙ c.last.ensures.value)
+    (λ z. λ i. record { vertical = all_zero r.vertical z.0 i; butterfly = all_zero r.butterfly z.1.0 i; boxes = all_zero r.boxes z.1.1 i })
+    ∙ ap in_force c.as_slice.ensures
