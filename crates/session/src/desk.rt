@@ -16,7 +16,7 @@ use std::io::{Read, Write};
 use strategy::class::Class;
 use strategy::leg::Side;
 use strategy::legs::Legs;
-use strategy::price::{Buffer, Buffers};
+use strategy::price::Buffers;
 
 const TAPE_LINES: usize = 4096;
 
@@ -35,18 +35,6 @@ const NO_LINE: TapeLine = TapeLine {
         ratio: 0,
         price: 0,
     }; 2]),
-};
-
-const NO_BUFFER: Buffer = Buffer {
-    minimum: 0,
-    absolute: 0,
-    percentage: 0,
-};
-
-const NO_NOTICE: Buffers = Buffers {
-    vertical: NO_BUFFER,
-    butterfly: NO_BUFFER,
-    boxes: NO_BUFFER,
 };
 
 // A session, and the area for its answers.
@@ -80,7 +68,7 @@ pub fn run<V: Venue + Drop, R: Read + Drop, W: Write>(
     ensures { OnOk result (Ran (V.Market.levels venue)) }
 {
     let mut tape = vec![in heap; NO_LINE; TAPE_LINES]?;
-    let mut notices = vec![in heap; NO_NOTICE; NOTICES]?;
+    let mut notices = vec![in heap; Buffers::default(); NOTICES]?;
     let gate = Gate::new(tape.as_mut_slice(), notices.as_mut_slice());
     let mut desk = Desk {
         session: Session::new(gate, venue),

@@ -39,13 +39,13 @@ impl From<MarketFault> for SessionFault {
     }
 }
 
-impl SessionFault {
-    // How the fault is answered.
-    pub fn answer(self) -> Answer
-        ensures { result ≡ fault_answer self }
-    {
-        match self {
-            SessionFault::Line(fault) => Answer::from(fault),
+// How a fault is answered.
+impl From<SessionFault> for Answer {
+    ghost from_gives = { λ e r. r ≡ fault_answer e };
+
+    fn from(fault: SessionFault) -> Self {
+        match fault {
+            SessionFault::Line(fault) => Answer::of_line_fault(fault),
             SessionFault::Gate(fault) => Answer::Refused {
                 number: u32::from(fault.number()),
                 layer: fault.layer(),

@@ -31,7 +31,7 @@ pub trait Venue: Market {
 fn series_number(series: i32) -> u32
     ensures { result ≡ amount series }
 {
-    if series < 0 { 0 } else { series as u32 }
+    u32::try_from(series).unwrap_or(0)
 }
 
 // A board takes in quotes.
@@ -44,10 +44,16 @@ impl Venue for Board {
         let Command::Quote(terms) = command else {
             return None;
         };
-        match self.quote(terms) {
-            Ok(()) => Some(Ok(Answer::Quote(series_number(terms.series)))),
-            Err(fault) => Some(Err(fault)),
-        }
+        let answer = self
+            .quote(
+                terms.series,
+                terms.bid_price,
+                terms.bid_size,
+                terms.offer_price,
+                terms.offer_size,
+            )
+            .map(|()| Answer::Quote(series_number(terms.series)));
+        Some(answer)
     }
 }
 
@@ -61,9 +67,9 @@ impl Venue for Ladder {
         let Command::Level(terms) = command else {
             return None;
         };
-        match self.level(terms) {
-            Ok(()) => Some(Ok(Answer::Level(series_number(terms.series)))),
-            Err(fault) => Some(Err(fault)),
-        }
+        let answer = self
+            .level(terms.series, terms.side, terms.price, terms.size)
+            .map(|()| Answer::Level(series_number(terms.series)));
+        Some(answer)
     }
 }

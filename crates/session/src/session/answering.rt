@@ -26,13 +26,13 @@ const EVERY: Feed = Feed {
     levels: true,
 };
 
-// A net price, as an answer says it.
-fn cents(price: Option<i32>) -> Option<i64>
-    ensures { result ≡ price }
+// How a sweep ended, as an answer says it.
+fn said_outcome(outcome: Outcome) -> SaidOutcome
+    ensures { result ≡ outcome_of outcome }
 {
-    match price {
-        Some(price) => Some(i64::from(price)),
-        None => None,
+    match outcome {
+        Outcome::Done => SaidOutcome::Done,
+        Outcome::Full => SaidOutcome::Full,
     }
 }
 
@@ -68,10 +68,7 @@ fn answer_of(reply: Reply) -> Answer
 fn final_answer(outcome: Result<Answer, SessionFault>) -> Answer
     ensures { result ≡ told outcome }
 {
-    match outcome {
-        Ok(answer) => answer,
-        Err(fault) => fault.answer(),
-    }
+    outcome.unwrap_or_else(Answer::from)
 }
 
 impl<'a, V: Venue> Session<'a, V> {
@@ -95,10 +92,8 @@ impl<'a, V: Venue> Session<'a, V> {
     fn update(&mut self, command: Command) -> Result<Answer, SessionFault>
         ensures { Updates command (view V.Market.levels V.Venue.updated V.Venue.after self.old) (told result) (view V.Market.levels V.Venue.updated V.Venue.after self.new) }
     {
-        match self.venue.update(command) {
-            Some(answer) => Ok(answer?),
-            None => Err(SessionFault::Line(LineFault::Unknown)),
-        }
+        let answer = self.venue.update(command).ok_or(LineFault::Unknown)?;
+        Ok(answer?)
     }
 
     fn net(&self, legs: LegList) -> Result<Answer, SessionFault>
@@ -106,8 +101,8 @@ impl<'a, V: Venue> Session<'a, V> {
     {
         let net = self.gate.net(legs, &self.venue)?;
         Ok(Answer::Net {
-            bid: cents(net.bid),
-            offer: cents(net.offer),
+            bid: net.bid.map(i64::from),
+            offer: net.offer.map(i64::from),
         })
     }
 
