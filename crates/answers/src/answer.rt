@@ -40,6 +40,7 @@ pub enum Answer {
         bid: Option<i64>,
         offer: Option<i64>,
     },
+    // any numbers, since a fault in their place would let callers say less
     Refused {
         number: u32,
         layer: Layer,

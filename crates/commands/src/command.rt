@@ -28,6 +28,12 @@ pub struct Feed {
 }
 
 impl Feed {
+    // The lines of every market.
+    pub const EVERY: Feed = Feed {
+        quotes: true,
+        levels: true,
+    };
+
     pub fn takes(self, command: &Command) -> bool
         ensures { result ≡ takes self command.now }
     {

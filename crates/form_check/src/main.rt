@@ -12,12 +12,6 @@ use std::io;
 use std::io::{BufWriter, Write};
 use std::process::ExitCode;
 
-// The lines of every market.
-const EVERY: Feed = Feed {
-    quotes: true,
-    levels: true,
-};
-
 #[derive(Drop)]
 struct Checker;
 
@@ -26,7 +20,7 @@ impl Answerer for Checker {
     ghost becomes = { λ before _ after. after ≡ before };
 
     fn answer<W: Write>(&mut self, line: &[u8], out: &mut W) -> io::Result<()> {
-        match read_line(line, EVERY) {
+        match read_line(line, Feed::EVERY) {
             Ok(_) => out.write_all(line)?,
             Err(fault) => out.write_all(Answer::from(fault).line().as_bytes())?,
         }

@@ -20,15 +20,9 @@ use line_writer::line::CAPACITY;
 use lines::fault::LineFault;
 use orders::records::LegList;
 
-// The lines of every market.
-const EVERY: Feed = Feed {
-    quotes: true,
-    levels: true,
-};
-
-// How a sweep ended, as an answer says it.
-fn said_outcome(outcome: Outcome) -> SaidOutcome
-    ensures { result ≡ outcome_of outcome }
+// A net price, as an answer says it.
+fn cents(price: Option<i32>) -> Option<i64>
+    ensures { result ≡ price }
 {
     match outcome {
         Outcome::Done => SaidOutcome::Done,
@@ -127,7 +121,7 @@ impl<'a, V: Venue> Session<'a, V> {
         ensures does { Does (view V.Market.levels V.Venue.updated V.Venue.after self.old) line.now (told result) (view V.Market.levels V.Venue.updated V.Venue.after self.new) }
         ensures law { HandsOn (view V.Market.levels V.Venue.updated V.Venue.after self.old) (view V.Market.levels V.Venue.updated V.Venue.after self.new) }
     {
-        let command = read_line(line, EVERY)?;
+        let command = read_line(line, Feed::EVERY)?;
         self.obey(command)
     }
 
