@@ -20,16 +20,6 @@ use line_writer::line::CAPACITY;
 use lines::fault::LineFault;
 use orders::records::LegList;
 
-// A net price, as an answer says it.
-fn cents(price: Option<i32>) -> Option<i64>
-    ensures { result ≡ price }
-{
-    match outcome {
-        Outcome::Done => SaidOutcome::Done,
-        Outcome::Full => SaidOutcome::Full,
-    }
-}
-
 // A reply of the gate, as an answer says it.
 fn answer_of(reply: Reply) -> Answer
     ensures { result ≡ answer_of reply }
