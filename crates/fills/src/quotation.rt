@@ -1,12 +1,12 @@
 // The fill that an order would get from a market now, or why it would get none.
-ghost use Rattle.std.specs.Prelude.{◌≡◌, ◌/◌, ◌≤◌, min, true, List, IfOk};
+ghost use Rattle.std.specs.Prelude.{◌≡◌, ◌≤◌, List, IfOk};
 ghost use Rattle.strategy.specs.declared.leg.Leg.{Leg};
 ghost use Rattle.std.specs.List.{All};
 ghost use Rattle.strategy.specs.Few.{listed, each_leg};
 ghost use Rattle.strategy.specs.Forms.{Long};
 ghost use Rattle.fills.specs.FillLaws.{Filled, FillLaw, LowBuyFills};
 ghost use Rattle.fills.specs.Fills.{taken_side, used_level, lacking, allowed, leg_fill, past_limit};
-ghost use Rattle.fills.specs.Quotes.{fill_at, quoted};
+ghost use Rattle.fills.specs.Quotes.{quoted};
 
 use crate::fill::{Fill, LegFill};
 use market::leg::TradedLeg;
@@ -29,53 +29,63 @@ pub fn taken_side(side: Side) -> QuoteSide
     }
 }
 
-// The first level that a leg's net price uses; without one, nothing at price 0.
-fn used_level<M: Market>(market: &M, leg: &TradedLeg, net: QuoteSide) -> Level
-    ensures { result ≡ used_level (M.levels market.now) net leg.now }
-{
-    let best = market.best(usize::from(leg.series), leg.used_side(net));
-    best.unwrap_or(Level { price: 0, size: 0 })
+// A market, seen from one side of a net market.
+#[derive(Clone, Copy)]
+struct NetSide<'a, M> {
+    market: &'a M,
+    side: QuoteSide,
 }
 
-// The first leg, from 1, whose level lacks its ratio.
-fn lacking_leg<M: Market>(market: &M, legs: &Legs<TradedLeg>, net: QuoteSide) -> Option<u8>
-    ensures { result ≡ lacking (M.levels market.now) net (listed legs.now) }
-{
-    legs.place_where(|leg| used_level(market, leg, net).size < u32::from(leg.ratio))
-}
-
-// As many of some units as every leg's level has.
-fn units_allowed<M: Market>(market: &M, legs: &[TradedLeg], net: QuoteSide, units: u16) -> u16
-    requires { All (λ g. 1 ≤ g.ratio) legs.now }
-    ensures { result ≡ allowed (M.levels market.now) net units legs.now }
-{
-    legs.iter().fold(units, |least, leg| {
-        let most = used_level(market, leg, net).size / u32::from(leg.ratio);
-        most.min(u32::from(least)) as u16
-    })
-}
-
-// The ratio of a sold leg has a minus.
-fn leg_fill<M: Market>(market: &M, leg: &TradedLeg, net: QuoteSide) -> LegFill
-    requires { leg.now.ratio ≤ 12 }
-    ensures { result ≡ leg_fill (M.levels market.now) net leg.now }
-{
-    let ratio = leg.ratio as i8;
-    LegFill {
-        series: leg.series,
-        ratio: match leg.side {
-            Side::Buy => ratio,
-            Side::Sell => -ratio,
-        },
-        price: used_level(market, leg, net).price,
+impl<M: Market> NetSide<'_, M> {
+    // The first level that a leg's net price uses; without one, nothing at price 0.
+    fn level(&self, leg: &TradedLeg) -> Level
+        ensures { result ≡ used_level (M.levels self.now.market.now) self.now.side leg.now }
+    {
+        let series = usize::from(leg.series);
+        let best = self.market.best(series, leg.used_side(self.side));
+        best.unwrap_or(Level { price: 0, size: 0 })
     }
-}
 
-fn leg_fills<M: Market>(market: &M, legs: Legs<TradedLeg>, net: QuoteSide) -> Legs<LegFill>
-    requires { All (λ g. g.ratio ≤ 12) (listed legs) }
-    ensures { result ≡ each_leg (leg_fill (M.levels market.now) net) legs }
-{
-    legs.map(|leg| leg_fill(market, &leg, net))
+    // The first leg, from 1, whose level lacks its ratio.
+    fn lacking_leg(&self, legs: &Legs<TradedLeg>) -> Option<u8>
+        ensures { result ≡ lacking (M.levels self.now.market.now) self.now.side (listed legs.now) }
+    {
+        legs.place_where(|leg| self.level(leg).size < u32::from(leg.ratio))
+    }
+
+    // As many of some units as every leg's level has.
+    fn units_allowed(&self, legs: &[TradedLeg], units: u16) -> u16
+        requires { All (λ g. 1 ≤ g.ratio) legs.now }
+        ensures { result ≡ allowed (M.levels self.now.market.now) self.now.side units legs.now }
+    {
+        legs.iter().fold(units, |least, leg| {
+            let most = self.level(leg).size / u32::from(leg.ratio);
+            most.min(u32::from(least)) as u16
+        })
+    }
+
+    // The ratio of a sold leg has a minus.
+    fn leg_fill(&self, leg: &TradedLeg) -> LegFill
+        requires { leg.now.ratio ≤ 12 }
+        ensures { result ≡ leg_fill (M.levels self.now.market.now) self.now.side leg.now }
+    {
+        let ratio = leg.ratio as i8;
+        LegFill {
+            series: leg.series,
+            ratio: match leg.side {
+                Side::Buy => ratio,
+                Side::Sell => -ratio,
+            },
+            price: self.level(leg).price,
+        }
+    }
+
+    fn leg_fills(&self, legs: Legs<TradedLeg>) -> Legs<LegFill>
+        requires { All (λ g. g.ratio ≤ 12) (listed legs) }
+        ensures { result ≡ each_leg (leg_fill (M.levels self.now.market.now) self.now.side) legs }
+    {
+        legs.map(|leg| self.leg_fill(&leg))
+    }
 }
 
 // Whether a buy is above its limit, or a sell below it.
@@ -86,19 +96,6 @@ fn is_past_limit(side: Side, net: i32, limit: Option<i32>) -> bool
         Side::Buy => net > limit,
         Side::Sell => net < limit,
     })
-}
-
-// The fill at a net price.
-fn fill_at<M: Market>(market: &M, order: &TurnedOrder, remaining: u16, net: i32) -> Fill
-    ensures { result ≡ fill_at (M.levels market.now) order.now remaining net }
-{
-    let legs = order.legs.as_legs();
-    let side = taken_side(order.side);
-    Fill {
-        units: units_allowed(market, legs.as_slice(), side, remaining),
-        net,
-        legs: leg_fills(market, legs, side),
-    }
 }
 
 // What an order of which some units remain would get.
@@ -115,7 +112,8 @@ pub fn quotation<M: Market>(
 {
     let legs = order.legs.as_legs();
     let side = taken_side(order.side);
-    if let Some(place) = lacking_leg(market, &legs, side) {
+    let net_side = NetSide { market, side };
+    if let Some(place) = net_side.lacking_leg(&legs) {
         return Err(GateFault::NoMarket(place));
     }
     // Every leg has a price there.
@@ -127,5 +125,9 @@ pub fn quotation<M: Market>(
     if strategy.is_prevented(order.side, i64::from(net), buffers) {
         return Err(GateFault::Prevented);
     }
-    Ok(fill_at(market, order, remaining, net))
+    Ok(Fill {
+        units: net_side.units_allowed(legs.as_slice(), remaining),
+        net,
+        legs: net_side.leg_fills(legs),
+    })
 }
