@@ -1,5 +1,5 @@
 -- A session as seen from outside.
-use Rattle.std.specs.Prelude.{Option, Result}
+use Rattle.std.specs.Prelude.{ℕ, Option, Result}
 use Rattle.answers.specs.declared.answer.Answer.{Answer}
 use Rattle.commands.specs.declared.command.Command.{Command}
 use Rattle.market.specs.declared.quote.MarketFault.{MarketFault}
@@ -18,5 +18,14 @@ pub record View : Type 0 where
   -- the levels that it leaves
   pub after : Command → Levels
 
-abbrev pub view : {V : Type 0} → (V → Levels) → (V → Command → Option (Result Answer MarketFault)) → (V → Command → Levels) → Session V → View
-view levels updated after s = record { gate = state s.gate; levels = levels s.venue; updated = updated s.venue; after = after s.venue }
+-- what the contracts of a market with lines of its own say of it
+abbrev pub Ways : Type 0 → Type 0
+Ways V = record {
+  levels : V → Levels;
+  count : V → ℕ;
+  updated : V → Command → Option (Result Answer MarketFault);
+  after : V → Command → Levels;
+}
+
+abbrev pub view : {V : Type 0} → Ways V → Session V → View
+view ways s = record { gate = state s.gate; levels = ways.levels s.venue; updated = ways.updated s.venue; after = ways.after s.venue }

@@ -45,7 +45,7 @@ struct Desk<'a, V> {
 }
 
 impl<'a, V: Venue> Answerer for Desk<'a, V> {
-    ghost becomes = { λ s line t. Turn (view V.Market.levels V.Venue.updated V.Venue.after s.session) line (view V.Market.levels V.Venue.updated V.Venue.after t.session) };
+    ghost becomes = { λ s line t. Turn (view V.Venue s.session) line (view V.Venue t.session) };
 
     fn answer<W: Write>(&mut self, line: &[u8], out: &mut W) -> io::Result<()> {
         let area = &mut self.area;

@@ -65,8 +65,8 @@ impl<'a, V: Venue> Session<'a, V> {
 
     // One of the seven calls.
     fn call(&mut self, call: Call) -> Result<Answer, SessionFault>
-        ensures makes { Makes call (view V.Market.levels V.Venue.updated V.Venue.after self.old) (told result) (view V.Market.levels V.Venue.updated V.Venue.after self.new) }
-        ensures law { HandsOn (view V.Market.levels V.Venue.updated V.Venue.after self.old) (view V.Market.levels V.Venue.updated V.Venue.after self.new) }
+        ensures makes { Makes call (view V.Venue self.old) (told result) (view V.Venue self.new) }
+        ensures law { HandsOn (view V.Venue self.old) (view V.Venue self.new) }
     {
         let reply = self.gate.apply(call, &mut self.venue)?;
         Ok(answer_of(reply))
@@ -74,7 +74,7 @@ impl<'a, V: Venue> Session<'a, V> {
 
     // A line of the market.
     fn update(&mut self, command: Command) -> Result<Answer, SessionFault>
-        ensures { Updates command (view V.Market.levels V.Venue.updated V.Venue.after self.old) (told result) (view V.Market.levels V.Venue.updated V.Venue.after self.new) }
+        ensures { Updates command (view V.Venue self.old) (told result) (view V.Venue self.new) }
     {
         let answer = self.venue.update(command).ok_or(LineFault::Unknown)?;
         Ok(answer?)
@@ -91,8 +91,8 @@ impl<'a, V: Venue> Session<'a, V> {
     }
 
     fn obey(&mut self, command: Command) -> Result<Answer, SessionFault>
-        ensures obeys { Obeys command (view V.Market.levels V.Venue.updated V.Venue.after self.old) (told result) (view V.Market.levels V.Venue.updated V.Venue.after self.new) }
-        ensures law { HandsOn (view V.Market.levels V.Venue.updated V.Venue.after self.old) (view V.Market.levels V.Venue.updated V.Venue.after self.new) }
+        ensures obeys { Obeys command (view V.Venue self.old) (told result) (view V.Venue self.new) }
+        ensures law { HandsOn (view V.Venue self.old) (view V.Venue self.new) }
     {
         match command {
             Command::Series(terms) => self.call(Call::Series(terms)),
@@ -108,8 +108,8 @@ impl<'a, V: Venue> Session<'a, V> {
     }
 
     fn respond(&mut self, line: &[u8]) -> Result<Answer, SessionFault>
-        ensures does { Does (view V.Market.levels V.Venue.updated V.Venue.after self.old) line.now (told result) (view V.Market.levels V.Venue.updated V.Venue.after self.new) }
-        ensures law { HandsOn (view V.Market.levels V.Venue.updated V.Venue.after self.old) (view V.Market.levels V.Venue.updated V.Venue.after self.new) }
+        ensures does { Does (view V.Venue self.old) line.now (told result) (view V.Venue self.new) }
+        ensures law { HandsOn (view V.Venue self.old) (view V.Venue self.new) }
     {
         let command = read_line(line, Feed::EVERY)?;
         self.obey(command)
@@ -118,8 +118,8 @@ impl<'a, V: Venue> Session<'a, V> {
     // Answers a line in the area that the caller lends: the answer's bytes from its start on, and every other byte as it was. An area under
     // 160 bytes is refused, and nothing is done.
     pub fn answer(&mut self, line: &[u8], area: &mut [u8]) -> Result<usize, LineFault>
-        ensures answer { MatchResult result (λ n. Answers (view V.Market.levels V.Venue.updated V.Venue.after self.old) line.now area.old area.new n (view V.Market.levels V.Venue.updated V.Venue.after self.new)) (λ e. TooSmall e area.old area.new × (self.new ≡ self.old)) }
-        ensures law { HandsOn (view V.Market.levels V.Venue.updated V.Venue.after self.old) (view V.Market.levels V.Venue.updated V.Venue.after self.new) }
+        ensures answer { MatchResult result (λ n. Answers (view V.Venue self.old) line.now area.old area.new n (view V.Venue self.new)) (λ e. TooSmall e area.old area.new × (self.new ≡ self.old)) }
+        ensures law { HandsOn (view V.Venue self.old) (view V.Venue self.new) }
     {
         if area.len() < CAPACITY {
             return Err(LineFault::ShortArea);

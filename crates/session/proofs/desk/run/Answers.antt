@@ -15,5 +15,5 @@ returns g c =
     let tape = ap (λ s. s.tape_room) made ∙ c.new-gate.ensures.tape ∙ c.as_mut_slice.ensures.len ∙ c.in_ok-tape.ensures.len in
     let notices = ap (λ s. s.notice_room) made ∙ c.new-gate.ensures.notices ∙ c.as_mut_slice-2.ensures.len ∙ c.in_ok-notices.ensures.len in
     MatchResult-weaker c.serve.result c.serve.ensures
-    (λ _ served. ran (λ d. view g.V.Market.levels g.V.Venue.updated g.V.Venue.after d.session) _ _ _ new tape notices (ap g.V.Market.levels c.new.ensures.venue) served)
+    (λ _ served. ran (λ d. view (record { levels = g.V.Market.levels; count = g.V.Market.count; updated = g.V.Venue.updated; after = g.V.Venue.after }) d.session) _ _ _ new tape notices (ap g.V.Market.levels c.new.ensures.venue) served)
     (λ _ u. u)
