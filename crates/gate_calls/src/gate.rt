@@ -12,6 +12,7 @@ mod setup;
 mod trading;
 
 // At most 4,096 tape lines and 64 notices are kept, fewer where the memory is shorter.
+// It has no Model: its state gives the order of a number by a function, and a function cannot be a view's value.
 #[derive(Drop)]
 pub struct Gate<'a> {
     phase: Phase,
