@@ -23,6 +23,7 @@ fn form(head: &str, fields: &[Field]) -> Line
     Line::form(head, fields)
 }
 
+#[tactic(auto, using(crate::proofs::Lengths::short_count))]
 fn count(n: u64) -> Field<'static>
     ensures is { atom result ≡ number (pos n) }
     ensures short { Short (atom result) }
@@ -30,6 +31,7 @@ fn count(n: u64) -> Field<'static>
     Field::Count(n)
 }
 
+#[tactic(auto, using(crate::proofs::Lengths::short_cents))]
 fn cents(n: i64) -> Field<'static>
     ensures is { atom result ≡ number n }
     ensures short { Short (atom result) }
