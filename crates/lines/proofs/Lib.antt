@@ -1,4 +1,3 @@
 pub mod Accepts
 pub mod Lexes
 pub mod Unique
-pub mod Strides
