@@ -10,9 +10,8 @@ use crate::legs::read_legs;
 use crate::words::{Head, Pricing};
 use lines::cursor::Cursor;
 use market::quote::QuoteSide;
-use orders::records::{
-    BufferTerms, Channel, LevelTerms, NoticeTerms, OrderTerms, QuoteTerms, SeriesTerms,
-};
+use market::terms::{LevelTerms, QuoteTerms};
+use orders::records::{BufferTerms, Channel, NoticeTerms, OrderTerms, SeriesTerms};
 use strategy::leg::{Kind, Side};
 
 impl FromParts for SeriesTerms {

@@ -11,6 +11,7 @@ use orders::bell::Bell;
 use orders::fault::GateFault;
 use orders::phase::Phase;
 use orders::records::{NoticeTerms, SeriesTerms};
+use strategy::leg::Series;
 use strategy::price::Buffers;
 
 const MOST_NOTICES: usize = 64;
