@@ -1,11 +1,14 @@
 -- The number of legs of each long form, and when legs are none of them.
-use Rattle.std.proofs.Common.{◌≡◌, ℕ, ◌<◌, ◌≤◌, ◌⊎◌, List, length, refl, ⊎_elim, arith, lit≤}
+use Rattle.std.proofs.Common.{◌≡◌, ℕ, ◌<◌, ◌≤◌, Bool, true, false, ◌⊎◌, List, length, Some, None, Option, refl, ⊎_elim, arith, lit≤}
+use Rattle.std.specs.Bool.{Decides, then_some}
+use Rattle.std.specs.Option.{option_map}
+use Rattle.std.proofs.lemmas.Bool.{false≢true}
 use Rattle.strategy.specs.declared.leg.Kind.{Kind}
 use Rattle.strategy.specs.declared.leg.Kind.TheVariants.{Call, Put}
 use Rattle.strategy.specs.declared.leg.Leg.{Leg}
 use Rattle.strategy.specs.declared.class.Class.{Class}
 use Rattle.strategy.specs.declared.class.Class.TheVariants.{Bought, Vertical, Calendar, Butterfly, BoxSpread, Other}
-use Rattle.strategy.specs.Forms.{vertical, calendar, butterfly, box, IsBought, IsVertical, IsCalendar, IsButterfly, IsBox, Long}
+use Rattle.strategy.specs.Forms.{vertical, calendar, butterfly, box, IsBought, IsVertical, IsCalendar, IsButterfly, IsBox, Long, Finds, Formed}
 use Rattle.strategy.proofs.Reorder.{length_reordered}
 
 two_strikes : (u : ℕ) (k : Kind) (low high e : ℕ) → length (vertical u k low high e) ≡ 2
@@ -47,6 +50,16 @@ excluded legs n Calendar w v = n.calendar (flat_calendar legs w v)
 excluded legs n Butterfly w v = n.butterfly w v
 excluded legs n BoxSpread w v = n.box w v
 excluded legs n Other w v = v
+
+-- the form that legs are, where only one class has a width
+pub one_class : (legs : List Leg) (c : Class) (o : Option ℕ) → Finds o (λ w. Long c w legs) → (((w : ℕ) → Long c w legs → ⊥) → NoneOf legs) → Formed legs (option_map (λ w. record { class = c; width = w }) o)
+one_class legs c None found none = excluded legs (none found)
+one_class legs c (Some w) found none = found
+
+-- the same of a class without a width
+pub flat_class : (legs : List Leg) (c : Class) (b : Bool) → Decides b (Long c 0 legs) → ((Long c 0 legs → ⊥) → NoneOf legs) → Formed legs (then_some b (record { class = c; width = 0 }))
+flat_class legs c false is none = excluded legs (none (λ l. false≢true (is.1 l)))
+flat_class legs c true is none = is.0 refl
 
 -- legs too few or too many for any form but all bought
 pub other_count : (legs : List Leg) → (IsBought 0 legs → ⊥) → (length legs < 2) ⊎ (4 < length legs) → (c : Class) (w : ℕ) → Long c w legs → ⊥

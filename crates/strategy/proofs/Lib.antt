@@ -1,4 +1,5 @@
 pub mod Reorder
+pub mod Counted
 pub mod Span
 pub mod Excluded
 pub mod Short

@@ -1,10 +1,9 @@
 // The class of a strategy, from its legs in any order.
-ghost use Rattle.std.specs.Prelude.{◌≡◌, ◌≤◌, [], ◌∷◌, length, Decides};
+ghost use Rattle.std.specs.Prelude.{◌≡◌, [], ◌∷◌, Decides};
 ghost use Rattle.strategy.specs.Few.{listed};
-ghost use Rattle.strategy.specs.Legs.{option, buy, sell};
-ghost use Rattle.strategy.specs.Reordering.{Reordered};
 ghost use Rattle.strategy.specs.Forms.{vertical, calendar, butterfly, box, IsBought, IsVertical, IsCalendar, IsButterfly, IsBox, Finds, Formed, Classified, class_name};
 
+use crate::any_order::are_reordered;
 use crate::leg::{Kind, Leg, Series, Side};
 use crate::legs::{Legs, flipped_legs};
 use crate::word::Word;
@@ -49,73 +48,51 @@ pub struct Strategy {
     pub turned: bool,
 }
 
-// Whether a and b are x and y in some order.
-fn same_two(a: Leg, b: Leg, x: Leg, y: Leg) -> bool
-    ensures { Decides result (Reordered (a ∷ b ∷ []) (x ∷ y ∷ [])) }
-{
-    a.same(x) & b.same(y) | a.same(y) & b.same(x)
-}
-
-// Whether a, b and c are x, y and z in some order.
-fn same_three(a: Leg, b: Leg, c: Leg, x: Leg, y: Leg, z: Leg) -> bool
-    ensures { Decides result (Reordered (a ∷ b ∷ c ∷ []) (x ∷ y ∷ z ∷ [])) }
-{
-    a.same(x) & same_two(b, c, y, z)
-        | a.same(y) & same_two(b, c, x, z)
-        | a.same(z) & same_two(b, c, x, y)
-}
-
-// Whether a, b, c and d are x, y, z and w in some order.
-fn same_four(a: Leg, b: Leg, c: Leg, d: Leg, x: Leg, y: Leg, z: Leg, w: Leg) -> bool
-    ensures { Decides result (Reordered (a ∷ b ∷ c ∷ d ∷ []) (x ∷ y ∷ z ∷ w ∷ [])) }
-{
-    a.same(x) & same_three(b, c, d, y, z, w)
-        | a.same(y) & same_three(b, c, d, x, z, w)
-        | a.same(z) & same_three(b, c, d, x, y, w)
-        | a.same(w) & same_three(b, c, d, x, y, z)
-}
-
-// A bought leg in a series like another but for its kind and strike.
-fn buy(ratio: u8, like: Series, kind: Kind, strike: u32) -> Leg
-    ensures { result ≡ buy ratio (option like.underlying kind strike like.expiry) }
-{
-    Leg {
-        side: Side::Buy,
-        ratio,
-        series: Series {
-            kind,
-            strike,
-            ..like
-        },
-    }
-}
-
-// The same, sold.
-fn sell(ratio: u8, like: Series, kind: Kind, strike: u32) -> Leg
-    ensures { result ≡ sell ratio (option like.underlying kind strike like.expiry) }
-{
-    Leg {
-        side: Side::Sell,
-        ratio,
-        series: Series {
-            kind,
-            strike,
-            ..like
-        },
-    }
-}
-
 // The legs of a long vertical.
-fn vertical(like: Series, low: u32, high: u32) -> (Leg, Leg)
-    ensures { result.0 ∷ result.1 ∷ [] ≡ vertical like.underlying like.kind low high like.expiry }
+fn vertical(like: Series, low: u32, high: u32) -> [Leg; 2]
+    ensures { result ≡ vertical like.underlying like.kind low high like.expiry }
 {
-    match like.kind {
-        Kind::Call => (
-            buy(1, like, Kind::Call, low),
-            sell(1, like, Kind::Call, high),
-        ),
-        Kind::Put => (buy(1, like, Kind::Put, high), sell(1, like, Kind::Put, low)),
-    }
+    let (bought, sold) = match like.kind {
+        Kind::Call => (low, high),
+        Kind::Put => (high, low),
+    };
+    [
+        Leg::new(Side::Buy, 1, like.option(like.kind, bought)),
+        Leg::new(Side::Sell, 1, like.option(like.kind, sold)),
+    ]
+}
+
+// The legs of a long calendar.
+fn calendar(like: Series, near: u16, later: u16) -> [Leg; 2]
+    ensures { result ≡ calendar like.underlying like.kind like.strike near later }
+{
+    [
+        Leg::new(Side::Buy, 1, like.dated(later)),
+        Leg::new(Side::Sell, 1, like.dated(near)),
+    ]
+}
+
+// The legs of a long butterfly.
+fn butterfly(like: Series, low: u32, middle: u32, high: u32) -> [Leg; 3]
+    ensures { result ≡ butterfly like.underlying like.kind low middle high like.expiry }
+{
+    [
+        Leg::new(Side::Buy, 1, like.option(like.kind, low)),
+        Leg::new(Side::Sell, 2, like.option(like.kind, middle)),
+        Leg::new(Side::Buy, 1, like.option(like.kind, high)),
+    ]
+}
+
+// The legs of a long box.
+fn box_spread(like: Series, low: u32, high: u32) -> [Leg; 4]
+    ensures { result ≡ box like.underlying low high like.expiry }
+{
+    [
+        Leg::new(Side::Buy, 1, like.option(Kind::Call, low)),
+        Leg::new(Side::Sell, 1, like.option(Kind::Put, low)),
+        Leg::new(Side::Sell, 1, like.option(Kind::Call, high)),
+        Leg::new(Side::Buy, 1, like.option(Kind::Put, high)),
+    ]
 }
 
 // The width of a long vertical.
@@ -124,22 +101,11 @@ fn vertical_width(a: Leg, b: Leg) -> Option<u32>
 {
     let low = a.series.strike.min(b.series.strike);
     let high = a.series.strike.max(b.series.strike);
-    let (bought, sold) = vertical(a.series, low, high);
-    if low < high && same_two(a, b, bought, sold) {
+    let form = vertical(a.series, low, high);
+    if low < high && are_reordered(&[a, b], &form) {
         Some(high - low)
     } else {
         None
-    }
-}
-
-// A leg of ratio 1 in a series like another but for its expiry.
-fn dated(side: Side, like: Series, expiry: u16) -> Leg
-    ensures { result ≡ record { side = side; ratio = 1; series = option like.underlying like.kind like.strike expiry } }
-{
-    Leg {
-        side,
-        ratio: 1,
-        series: Series { expiry, ..like },
     }
 }
 
@@ -149,9 +115,8 @@ fn is_calendar(a: Leg, b: Leg) -> bool
 {
     let near = a.series.expiry.min(b.series.expiry);
     let later = a.series.expiry.max(b.series.expiry);
-    let bought = dated(Side::Buy, a.series, later);
-    let sold = dated(Side::Sell, a.series, near);
-    (near < later) & same_two(a, b, bought, sold)
+    let form = calendar(a.series, near, later);
+    near < later && are_reordered(&[a, b], &form)
 }
 
 // The width of a long butterfly.
@@ -162,10 +127,8 @@ fn butterfly_width(a: Leg, b: Leg, c: Leg) -> Option<u32>
     let high = a.series.strike.max(b.series.strike).max(c.series.strike);
     let width = (high - low) / 2;
     let middle = low + width;
-    let lower = buy(1, a.series, a.series.kind, low);
-    let sold = sell(2, a.series, a.series.kind, middle);
-    let higher = buy(1, a.series, a.series.kind, high);
-    if 0 < width && middle + width == high && same_three(a, b, c, lower, sold, higher) {
+    let form = butterfly(a.series, low, middle, high);
+    if 0 < width && middle + width == high && are_reordered(&[a, b, c], &form) {
         Some(width)
     } else {
         None
@@ -180,11 +143,8 @@ fn box_width(a: Leg, b: Leg, c: Leg, d: Leg) -> Option<u32>
     let (sc, sd) = (c.series.strike, d.series.strike);
     let low = sa.min(sb).min(sc).min(sd);
     let high = sa.max(sb).max(sc).max(sd);
-    let low_call = buy(1, a.series, Kind::Call, low);
-    let low_put = sell(1, a.series, Kind::Put, low);
-    let high_call = sell(1, a.series, Kind::Call, high);
-    let high_put = buy(1, a.series, Kind::Put, high);
-    if low < high && same_four(a, b, c, d, low_call, low_put, high_call, high_put) {
+    let form = box_spread(a.series, low, high);
+    if low < high && are_reordered(&[a, b, c, d], &form) {
         Some(high - low)
     } else {
         None
@@ -195,55 +155,43 @@ fn two_legs(a: Leg, b: Leg) -> Option<Form>
     requires { IsBought 0 (a ∷ b ∷ []) → ⊥ }
     ensures { Formed (a ∷ b ∷ []) result }
 {
-    match vertical_width(a, b) {
-        Some(width) => Some(Form {
+    if let Some(width) = vertical_width(a, b) {
+        return Some(Form {
             class: Class::Vertical,
             width,
-        }),
-        None if is_calendar(a, b) => Some(Form {
-            class: Class::Calendar,
-            width: 0,
-        }),
-        None => None,
+        });
     }
+    is_calendar(a, b).then_some(Form {
+        class: Class::Calendar,
+        width: 0,
+    })
 }
 
 fn three_legs(a: Leg, b: Leg, c: Leg) -> Option<Form>
     requires { IsBought 0 (a ∷ b ∷ c ∷ []) → ⊥ }
     ensures { Formed (a ∷ b ∷ c ∷ []) result }
 {
-    match butterfly_width(a, b, c) {
-        Some(width) => Some(Form {
-            class: Class::Butterfly,
-            width,
-        }),
-        None => None,
-    }
+    butterfly_width(a, b, c).map(|width| Form {
+        class: Class::Butterfly,
+        width,
+    })
 }
 
 fn four_legs(a: Leg, b: Leg, c: Leg, d: Leg) -> Option<Form>
     requires { IsBought 0 (a ∷ b ∷ c ∷ d ∷ []) → ⊥ }
     ensures { Formed (a ∷ b ∷ c ∷ d ∷ []) result }
 {
-    match box_width(a, b, c, d) {
-        Some(width) => Some(Form {
-            class: Class::BoxSpread,
-            width,
-        }),
-        None => None,
-    }
+    box_width(a, b, c, d).map(|width| Form {
+        class: Class::BoxSpread,
+        width,
+    })
 }
 
 // Whether there are legs, and every one of them is bought.
 fn all_bought(legs: &[Leg]) -> bool
     ensures { Decides result (IsBought 0 legs.now) }
 {
-    for leg in legs {
-        if let Side::Sell = leg.side {
-            return false;
-        }
-    }
-    legs.len() > 0
+    !legs.is_empty() && legs.iter().all(|leg| leg.side == Side::Buy)
 }
 
 // The long form that the legs are.

@@ -1,6 +1,6 @@
 // Option series, and the legs of a strategy.
-ghost use Rattle.std.specs.Prelude.{◌≡◌, Decides};
-ghost use Rattle.strategy.specs.Legs.{opposite, turned_side, flipped};
+ghost use Rattle.std.specs.Prelude.{◌≡◌};
+ghost use Rattle.strategy.specs.Legs.{option, opposite, turned_side, flipped};
 
 #[derive(Clone, Copy, PartialEq, Eq)]
 pub enum Kind {
@@ -49,7 +49,37 @@ impl Side {
     }
 }
 
+impl Series {
+    // The series of a kind and a strike, else alike.
+    pub(crate) fn option(self, kind: Kind, strike: u32) -> Series
+        ensures { result ≡ option self.underlying kind strike self.expiry }
+    {
+        Series {
+            kind,
+            strike,
+            ..self
+        }
+    }
+
+    // The series of an expiry, else alike.
+    pub(crate) fn dated(self, expiry: u16) -> Series
+        ensures { result ≡ option self.underlying self.kind self.strike expiry }
+    {
+        Series { expiry, ..self }
+    }
+}
+
 impl Leg {
+    pub(crate) fn new(side: Side, ratio: u8, series: Series) -> Leg
+        ensures { result ≡ record { side = side; ratio = ratio; series = series } }
+    {
+        Leg {
+            side,
+            ratio,
+            series,
+        }
+    }
+
     // The same leg on the other side.
     pub(crate) fn flipped(self) -> Leg
         ensures { result ≡ flipped self }
@@ -58,11 +88,5 @@ impl Leg {
             side: self.side.opposite(),
             ..self
         }
-    }
-
-    pub(crate) fn same(self, other: Leg) -> bool
-        ensures { Decides result (self ≡ other) }
-    {
-        self == other
     }
 }

@@ -73,31 +73,21 @@ fn ratio_sum(legs: &[Leg]) -> u32
     requires { length legs.now ≤ 4 }
     ensures { result ≡ sum_by (λ l. l.ratio) legs.now }
 {
-    let mut sum = 0;
-    for leg in legs {
-        sum += u32::from(leg.ratio);
-    }
-    sum
+    legs.iter().map(|leg| u32::from(leg.ratio)).sum()
 }
 
 // Whether a price is below the Minimum, where there is one.
 fn below(price: i64, least: Option<i64>) -> bool
     ensures { result ≡ below price least }
 {
-    match least {
-        Some(least) => price < least,
-        None => false,
-    }
+    least.is_some_and(|least| price < least)
 }
 
 // Whether a price is above the Maximum, where there is one.
 fn above(price: i64, most: Option<i64>) -> bool
     ensures { result ≡ above price most }
 {
-    match most {
-        Some(most) => most < price,
-        None => false,
-    }
+    most.is_some_and(|most| most < price)
 }
 
 // The refusal of a limit by its bounds, in turned terms.

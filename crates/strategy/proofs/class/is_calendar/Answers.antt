@@ -1,10 +1,10 @@
-use Rattle.std.proofs.Common.{ltb, refl}
-use Rattle.std.proofs.lemmas.Bool.Decides.{Decides-like, Decides-and, Decides-ltb}
+use Rattle.std.proofs.Common.{refl, arith}
+use Rattle.std.proofs.lemmas.Bool.Decides.{Decides-like, Decides-ltb}
 use Rattle.strategy.proofs.Span.{calendar_read}
 use Rattle.strategy.proofs.class.is_calendar.Goals as goal
 
-pub returns : goal.returns
-returns c =
+pub returns-then-near-later : goal.returns-then-near-later
+returns-then-near-later c =
     Decides-like _
     (λ h. record {
       u = c.args.a.series.underlying;
@@ -12,10 +12,15 @@ returns c =
       strike = c.args.a.series.strike;
       near = c.min-near.result;
       later = c.max-later.result;
-      apart = h.0;
+      apart = omega arith;
       flat = refl;
-      legs_are = rw (c.dated-bought.ensures, c.dated-sold.ensures) at h.1;
+      legs_are = rw c.calendar-form.ensures at h;
     })
-    (λ v. let r = calendar_read c.args.a c.args.b v c.min-near.result c.max-later.result c.min-near.ensures c.max-later.ensures in
-    (r.0, rw (c.dated-bought.ensures, c.dated-sold.ensures) r.1))
-    (Decides-and (ltb c.min-near.result c.max-later.result) c.same_two.result (Decides-ltb c.min-near.result c.max-later.result) c.same_two.ensures)
+    (λ v. rw c.calendar-form.ensures (calendar_read c.args.a c.args.b v c.min-near.result c.max-later.result c.min-near.ensures c.max-later.ensures).1)
+    c.are_reordered.ensures
+
+pub returns-else-near-later : goal.returns-else-near-later
+returns-else-near-later c = (
+  λ h. absurd (omega (arith, (Decides-ltb c.min-near.result c.max-later.result).0 h)),
+  λ v. (Decides-ltb c.min-near.result c.max-later.result).1 (calendar_read c.args.a c.args.b v c.min-near.result c.max-later.result c.min-near.ensures c.max-later.ensures).0,
+)

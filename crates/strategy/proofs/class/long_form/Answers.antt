@@ -4,18 +4,6 @@ use Rattle.strategy.proofs.Excluded.{other_count}
 use Rattle.strategy.proofs.Short.{two_are, three_are, four_are, no_leg}
 use Rattle.strategy.proofs.class.long_form.Goals as goal
 
-pub two_legs-requires : goal.two_legs-requires
-two_legs-requires c =
-    rw (two_are c.args.legs.now no_leg no_leg (search rules)) at (not_from_Decides _ c.all_bought.ensures c.if-all_bought.false)
-
-pub three_legs-requires : goal.three_legs-requires
-three_legs-requires c =
-    rw (three_are c.args.legs.now no_leg no_leg no_leg (search rules)) at (not_from_Decides _ c.all_bought.ensures c.if-all_bought.false)
-
-pub four_legs-requires : goal.four_legs-requires
-four_legs-requires c =
-    rw (four_are c.args.legs.now no_leg no_leg no_leg no_leg (search rules)) at (not_from_Decides _ c.all_bought.ensures c.if-all_bought.false)
-
 pub returns-in-len2 : goal.returns-in-len2
 returns-in-len2 c = rw (two_are c.args.legs.now no_leg no_leg (search rules)) c.two_legs.ensures
 

@@ -1,16 +1,18 @@
 use Rattle.std.proofs.Common.{List, [], ◌∷◌, arith}
-use Rattle.std.proofs.lemmas.Bool.Decides.{not_from_Decides}
+use Rattle.strategy.specs.declared.class.Class.TheVariants.{Calendar}
 use Rattle.strategy.specs.declared.leg.Leg.{Leg}
-use Rattle.strategy.proofs.Excluded.{excluded, length-butterfly, length-box}
+use Rattle.strategy.proofs.Excluded.{flat_class, length-butterfly, length-box}
 use Rattle.strategy.proofs.class.two_legs.Goals as goal
 
-pub returns-in-None-2 : goal.returns-in-None-2
-returns-in-None-2 c =
+pub returns : goal.returns
+returns c =
     let legs : List Leg = c.args.a ∷ c.args.b ∷ [] in
-    excluded legs record {
+    rw c.then_some.ensures
+    (flat_class legs Calendar c.is_calendar.result c.is_calendar.ensures
+    (λ no. record {
       bought = c.requires;
-      vertical = c.in-None-2.ensures;
-      calendar = not_from_Decides _ c.is_calendar.ensures c.if-is_calendar.false;
+      vertical = c.in_default.ensures;
+      calendar = no;
       butterfly = λ w v. omega (arith, length-butterfly w legs v);
       box = λ w v. omega (arith, length-box w legs v);
-    }
+    }))
