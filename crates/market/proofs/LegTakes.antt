@@ -1,8 +1,8 @@
 -- Takes from each leg in turn.
-use Rattle.std.proofs.Common.{◌≡◌, ℕ, ◌+◌, ◌*◌, ◌<◌, ◌≤◌, Bool, true, false, not, ◌&&◌, ◌||◌, eqb, List, [], ◌∷◌, length, drop, Ok, Err, sym, refl, ap, ◌∙◌, subst}
+use Rattle.std.proofs.Common.{◌≡◌, ℕ, ◌+◌, ◌*◌, ◌<◌, ◌≤◌, true, false, not, eqb, List, [], ◌∷◌, length, drop, Ok, Err, sym, refl, ap, ◌∙◌, subst}
 use Rattle.std.specs.List.{AllByRecursion}
 use Rattle.std.proofs.lemmas.List.{drop_more, drop_all}
-use Rattle.std.proofs.lemmas.Bool.{cond-true, ne_eqb, eqb-false, and_parts, and_from, or_parts, or_from, or_left, eq-eqb, not_from_false, not-true}
+use Rattle.std.proofs.lemmas.Bool.{cond-true, ne_eqb, eqb-false, and_parts, and_from, or_parts, or_from, not_from_false, not-true}
 use Rattle.market.specs.declared.quote.QuoteSide.{QuoteSide}
 use Rattle.market.specs.declared.quote.MarketFault.TheVariants.{Take}
 use Rattle.market.specs.declared.leg.TradedLeg.{TradedLeg}
@@ -72,45 +72,17 @@ module _ (gs : List TradedLeg) (i : ℕ) (h : i < length gs) where
   next : drop i gs ≡ leg_at gs i ∷ drop (i + 1) gs
   next = drop_more gs i (record { side = Buy; ratio = 0; series = 0 }) h
 
-  -- its test in a search of a series, of distinct legs, of legs that are ready
-  module _ (k : ℕ) (inv : in_series k (drop i gs) ≡ in_series k gs) where
-    pub series_stop : (leg_at gs i).series ≡ k → true ≡ in_series k gs
-    series_stop e = sym (or_left (eqb (leg_at gs i).series k) (in_series k (drop (i + 1) gs)) (eq-eqb (leg_at gs i).series k e)) ∙ ap (in_series k) (sym next) ∙ inv
-
-    pub series_more : ((leg_at gs i).series ≡ k → ⊥) → in_series k (drop (i + 1) gs) ≡ in_series k gs
-    series_more e = ap (λ t. t || in_series k (drop (i + 1) gs)) (sym (ne_eqb (leg_at gs i).series k e)) ∙ ap (in_series k) (sym next) ∙ inv
-
-  module _ (inv : distinct (drop i gs) ≡ distinct gs) where
-    distinct_step : (t : Bool) → in_series (leg_at gs i).series (drop (i + 1) gs) ≡ t → (not t && distinct (drop (i + 1) gs)) ≡ distinct gs
-    distinct_step t e = ap (λ x. not x && distinct (drop (i + 1) gs)) (sym e) ∙ ap distinct (sym next) ∙ inv
-
-    pub distinct_stop : in_series (leg_at gs i).series (drop (i + 1) gs) ≡ true → false ≡ distinct gs
-    distinct_stop e = distinct_step true e
-
-    pub distinct_more : in_series (leg_at gs i).series (drop (i + 1) gs) ≡ false → distinct (drop (i + 1) gs) ≡ distinct gs
-    distinct_more e = distinct_step false e
-
-  module _ (b : Levels) (q : QuoteSide) (u : ℕ) (inv : all_ready b q u (drop i gs) ≡ all_ready b q u gs) where
-    ready_step : (t : Bool) → leg_ready b q u (leg_at gs i) ≡ t → (t && all_ready b q u (drop (i + 1) gs)) ≡ all_ready b q u gs
-    ready_step t e = ap (λ x. x && all_ready b q u (drop (i + 1) gs)) (sym e) ∙ ap (all_ready b q u) (sym next) ∙ inv
-
-    pub ready_stop : leg_ready b q u (leg_at gs i) ≡ false → false ≡ all_ready b q u gs
-    ready_stop e = ready_step false e
-
-    pub ready_more : leg_ready b q u (leg_at gs i) ≡ true → all_ready b q u (drop (i + 1) gs) ≡ all_ready b q u gs
-    ready_more e = ready_step true e
-
-  -- n contracts of it are taken on the side v, which turns the levels b into a
-  module _ (b : Levels) (q : QuoteSide) (u : ℕ) (v : QuoteSide) (ev : v ≡ used_side (leg_at gs i).side q) (n : ℕ) (en : n ≡ (leg_at gs i).ratio * u) (turn : InTurn b q u (drop i gs)) where
+  -- n contracts of it are taken from its series k on the side v, which turns the levels b into a
+  module _ (b : Levels) (q : QuoteSide) (u : ℕ) (k : ℕ) (ek : k ≡ (leg_at gs i).series) (v : QuoteSide) (ev : v ≡ used_side (leg_at gs i).side q) (n : ℕ) (en : n ≡ (leg_at gs i).ratio * u) (turn : InTurn b q u (drop i gs)) where
     both : (leg_ready b q u (leg_at gs i) ≡ true) × InTurn (leg_taken b q u (leg_at gs i)) q u (drop (i + 1) gs)
     both = subst (InTurn b q u) next turn
 
-    pub leg_answer : take_answer (b (leg_at gs i).series v) n ≡ Ok tt
-    leg_answer = ap (λ s. take_answer (b (leg_at gs i).series s) n) ev ∙ ap (take_answer (b (leg_at gs i).series (used_side (leg_at gs i).side q))) en ∙ cond-true (leg_ready b q u (leg_at gs i)) (Ok tt) (Err Take) both.0
+    pub leg_answer : take_answer (b k v) n ≡ Ok tt
+    leg_answer = ap (λ j. take_answer (b j v) n) ek ∙ ap (λ s. take_answer (b (leg_at gs i).series s) n) ev ∙ ap (take_answer (b (leg_at gs i).series (used_side (leg_at gs i).side q))) en ∙ cond-true (leg_ready b q u (leg_at gs i)) (Ok tt) (Err Take) both.0
 
-    module _ (a : Levels) (ea : a ≡ taken_at b (leg_at gs i).series v n) where
+    module _ (a : Levels) (ea : a ≡ taken_at b k v n) where
       leg_after : a ≡ leg_taken b q u (leg_at gs i)
-      leg_after = ea ∙ ap (λ s. taken_at b (leg_at gs i).series s n) ev ∙ ap (taken_at b (leg_at gs i).series (used_side (leg_at gs i).side q)) en
+      leg_after = ea ∙ ap (λ j. taken_at b j v n) ek ∙ ap (λ s. taken_at b (leg_at gs i).series s n) ev ∙ ap (taken_at b (leg_at gs i).series (used_side (leg_at gs i).side q)) en
 
       pub turn_more : InTurn a q u (drop (i + 1) gs)
       turn_more = subst (λ x. InTurn x q u (drop (i + 1) gs)) (sym leg_after) both.1
@@ -120,12 +92,3 @@ module _ (gs : List TradedLeg) (i : ℕ) (h : i < length gs) where
 
 pub taken_all : (b c : Levels) (q : QuoteSide) (u : ℕ) (gs : List TradedLeg) (i : ℕ) → length gs ≤ i → legs_taken b q u (drop i gs) ≡ c → b ≡ c
 taken_all b c q u gs i h inv = ap (legs_taken b q u) (sym (drop_all i gs h)) ∙ inv
-
-pub series_all : (k : ℕ) (gs : List TradedLeg) (i : ℕ) → length gs ≤ i → in_series k (drop i gs) ≡ in_series k gs → false ≡ in_series k gs
-series_all k gs i h inv = ap (in_series k) (sym (drop_all i gs h)) ∙ inv
-
-pub distinct_all : (gs : List TradedLeg) (i : ℕ) → length gs ≤ i → distinct (drop i gs) ≡ distinct gs → true ≡ distinct gs
-distinct_all gs i h inv = ap distinct (sym (drop_all i gs h)) ∙ inv
-
-pub ready_all : (b : Levels) (q : QuoteSide) (u : ℕ) (gs : List TradedLeg) (i : ℕ) → length gs ≤ i → all_ready b q u (drop i gs) ≡ all_ready b q u gs → true ≡ all_ready b q u gs
-ready_all b q u gs i h inv = ap (all_ready b q u) (sym (drop_all i gs h)) ∙ inv

@@ -1,6 +1,6 @@
 -- What is taken of each leg for some units of a strategy.
-use Rattle.std.specs.Prelude.{◌≡◌, ℕ, ◌*◌, Bool, true, false, not, ◌&&◌, ◌||◌, List, [], ◌∷◌, ◌==◌, ◌≢◌}
-use Rattle.std.specs.List.{AllByRecursion}
+use Rattle.std.specs.Prelude.{◌≡◌, ℕ, ◌*◌, Bool, true, not, ◌&&◌, List, [], ◌∷◌, ◌==◌, ◌≢◌}
+use Rattle.std.specs.List.{AllByRecursion, list_any, list_all}
 use Rattle.market.specs.declared.quote.QuoteSide.{QuoteSide}
 use Rattle.market.specs.declared.leg.TradedLeg.{TradedLeg}
 use Rattle.market.specs.Levels.{Levels, can_take, taken_at}
@@ -11,13 +11,11 @@ abbrev pub leg_ready : Levels → QuoteSide → ℕ → TradedLeg → Bool
 leg_ready b q u g = can_take (b g.series (used_side g.side q)) (g.ratio * u)
 
 abbrev pub all_ready : Levels → QuoteSide → ℕ → List TradedLeg → Bool
-all_ready b q u [] = true
-all_ready b q u (g ∷ gs) = leg_ready b q u g && all_ready b q u gs
+all_ready b q u gs = list_all (leg_ready b q u) gs
 
 -- whether one of some legs is in the series k
 abbrev pub in_series : ℕ → List TradedLeg → Bool
-in_series k [] = false
-in_series k (g ∷ gs) = g.series == k || in_series k gs
+in_series k gs = list_any (λ g. g.series == k) gs
 
 -- whether all legs are in different series
 abbrev pub distinct : List TradedLeg → Bool

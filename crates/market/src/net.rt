@@ -15,7 +15,7 @@ fn signed_price(leg: &TradedLeg, price: u16) -> i32
     ensures value { result ≡ signed leg.now.side (leg.now.ratio * price) }
     ensures small { (neg_ℤ (pos 16711425) ≤ℤ result) × (result ≤ℤ pos 16711425) }
 {
-    let amount = (leg.ratio as u32 * price as u32) as i32;
+    let amount = i32::from(leg.ratio) * i32::from(price);
     match leg.side {
         Side::Buy => amount,
         Side::Sell => -amount,

@@ -21,7 +21,7 @@ impl QuoteSide {
 }
 
 // A price in cents and how many contracts stand there.
-#[derive(Clone, Copy)]
+#[derive(Clone, Copy, Default)]
 pub struct Level {
     pub price: u16,
     pub size: u32,

@@ -13,29 +13,22 @@ use strategy::legs::Legs;
 fn contracts(leg: &TradedLeg, units: u16) -> u32
     ensures { result ≡ leg.now.ratio * units }
 {
-    leg.ratio as u32 * units as u32
+    u32::from(leg.ratio) * u32::from(units)
 }
 
 fn has_series(legs: &[TradedLeg], series: u8) -> bool
     ensures { result ≡ in_series series legs.now }
 {
-    for leg in legs {
-        if leg.series == series {
-            return true;
-        }
-    }
-    false
+    legs.iter().any(|leg| leg.series == series)
 }
 
 fn are_distinct(legs: &[TradedLeg]) -> bool
     ensures { result ≡ distinct legs.now }
 {
-    for i in 0..legs.len() {
-        if has_series(&legs[i + 1..], legs[i].series) {
-            return false;
-        }
+    match legs {
+        [] => true,
+        [leg, rest @ ..] => !has_series(rest, leg.series) && are_distinct(rest),
     }
-    true
 }
 
 // Whether the level that a leg's net price uses has the contracts of some units.
@@ -51,12 +44,7 @@ fn is_ready<M: Market>(market: &M, leg: &TradedLeg, net: QuoteSide, units: u16) 
 fn are_ready<M: Market>(market: &M, legs: &[TradedLeg], net: QuoteSide, units: u16) -> bool
     ensures { result ≡ all_ready (M.levels market.now) net units legs.now }
 {
-    for leg in legs {
-        if !is_ready(market, leg, net, units) {
-            return false;
-        }
-    }
-    true
+    legs.iter().all(|leg| is_ready(market, leg, net, units))
 }
 
 // Takes ratio times units of each leg from the level that its net price uses, or nothing at all.
@@ -76,7 +64,7 @@ pub fn take_legs<M: Market>(
     }
     for leg in legs {
         market.take(
-            leg.series as usize,
+            usize::from(leg.series),
             leg.used_side(net),
             contracts(leg, units),
         )?;

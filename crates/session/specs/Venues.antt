@@ -67,7 +67,7 @@ board_after b c = take_quote (board_levels b) (quote_in c)
 -- The ladder
 
 -- the numbers of a level
-abbrev pub level_numbers : LevelTerms → Result (ℕ × ℕ × ℕ) MarketFault
+abbrev pub level_numbers : LevelTerms → Result (ℕ × shown.Level) MarketFault
 level_numbers x = level_call 15 x
 
 abbrev pub answer_level : Levels → Option LevelTerms → Option (Result Answer MarketFault)

@@ -1,28 +1,12 @@
 -- The place of a price among ordered levels.
-use Rattle.std.proofs.Common.{◌≡◌, ℕ, suc, ◌+◌, ◌<◌, ◌≤◌, true, false, cond, eqb, List, [], ◌∷◌, length, get_or, take, drop, set, Ok, Err, Result, sym, refl, ap, ◌∙◌, subst, ⊎_elim, arith}
-use Rattle.std.specs.List.{insert, remove}
-use Rattle.std.proofs.lemmas.List.{get_or-take, at_drop_more, at_drop_all, length-take-le}
-use Rattle.std.proofs.lemmas.Bool.{cond-true, cond-false, cases_Bool, eq-eqb, ne_eqb}
+use Rattle.std.proofs.Common.{◌≡◌, ℕ, suc, ◌+◌, ◌<◌, ◌≤◌, true, false, cond, eqb, List, [], ◌∷◌, ◌++◌, length, get_or, take, drop, set, length-set, Ok, Err, Result, sym, refl, ap, ◌∙◌, subst, ⊎_elim, arith}
+use Rattle.std.specs.List.{insert, remove, prefix_len, refill}
+use Rattle.std.proofs.Math.Seq.{take-append_seam}
+use Rattle.std.proofs.lemmas.Bool.{cases_Bool, eq-eqb, ne_eqb}
 use Rattle.market.specs.declared.quote.QuoteSide.{QuoteSide}
 use Rattle.market.specs.declared.quote.Level.{Level}
 use Rattle.venues.specs.Ordered.{better}
 use Rattle.venues.specs.Sizes.{place_of, stands, found_at, with_size}
-
--- a count of the levels of xs, of which n are in use, that are better than a price
-module _ (s : QuoteSide) (p : ℕ) (xs : List Level) (n i : ℕ) (long : n ≤ length xs) (d : Level) (inv : i + place_of s p (drop i (take n xs)) ≡ place_of s p (take n xs)) where
-  step : i < n → place_of s p (drop i (take n xs)) ≡ cond (better s (get_or xs i d).price p) (suc (place_of s p (drop (i + 1) (take n xs)))) 0
-  step h =
-      at_drop_more (place_of s p) (take n xs) i d (rw (length-take-le n xs long) h)
-      ∙ ap (λ l. cond (better s l.price p) (suc (place_of s p (drop (i + 1) (take n xs)))) 0) (get_or-take n xs i d h)
-
-  pub place_stop : i < n → better s (get_or xs i d).price p ≡ false → i ≡ place_of s p (take n xs)
-  place_stop h e = let t = step h ∙ cond-false (better s (get_or xs i d).price p) (suc (place_of s p (drop (i + 1) (take n xs)))) 0 e in omega (arith, t, inv)
-
-  pub place_more : i < n → better s (get_or xs i d).price p ≡ true → (i + 1) + place_of s p (drop (i + 1) (take n xs)) ≡ place_of s p (take n xs)
-  place_more h e = let t = step h ∙ cond-true (better s (get_or xs i d).price p) (suc (place_of s p (drop (i + 1) (take n xs)))) 0 e in omega (arith, t, inv)
-
-  pub place_end : n ≤ i → i ≡ place_of s p (take n xs)
-  place_end h = let t = at_drop_all (place_of s p) (take n xs) i (rw (length-take-le n xs long) h) in omega (arith, t, inv)
 
 -- what the place of a price says of a list in which it stands, or does not
 module _ (s : QuoteSide) (p : ℕ) where
@@ -71,6 +55,21 @@ module _ (s : QuoteSide) (p : ℕ) where
         ⊎_elim (λ e. rw e (ap (λ xs. l ∷ xs) (size_put ls (rw e at q))))
         (λ e. rw (e, rw e at q, some)) (cases_Bool (better s l.price p))
 
+-- the place as a count of the levels in front of it
+pub place_is : (s : QuoteSide) (p : ℕ) (ls : List Level) → prefix_len (λ l. better s l.price p) ls ≡ place_of s p ls
+place_is s p [] = refl
+place_is s p (l ∷ ls) = ap (λ n. cond (better s l.price p) n 0) (ap (λ n. 1 + n) (place_is s p ls) ∙ one_more (place_of s p ls))
+  where
+    one_more : (n : ℕ) → 1 + n ≡ suc n
+    one_more n = omega arith
+
+-- a level written in a slice of the levels
+pub written : (ls xs : List Level) (i : ℕ) (l : Level) → xs ≡ ls → refill (length ls) ls (set xs i l) ≡ set ls i l
+written ls xs i l e =
+    ap (λ ys. refill (length ls) ls (set ys i l)) e
+    ∙ ap (λ n. take n (set ls i l ++ drop (length (set ls i l)) ls)) (sym (length-set ls i l))
+    ∙ take-append_seam (set ls i l) (drop (length (set ls i l)) ls)
+
 -- what a place tells
 module _ (s : QuoteSide) (p : ℕ) (ls : List Level) (i : ℕ) where
   pub place_here : stands s p ls ≡ true → i ≡ place_of s p ls → Ok i ≡ found_at s p ls
@@ -85,25 +84,23 @@ module _ (s : QuoteSide) (p : ℕ) (ls : List Level) (i : ℕ) where
   pub found_away : Err i ≡ found_at s p ls → (stands s p ls ≡ false) × (i ≡ place_of s p ls)
   found_away e = ⊎_elim (λ q. absurd (let k : ◌≡◌ {A = Result ℕ ℕ} (Err i) (Ok (place_of s p ls)) = rw q at e in let z : ◌≡◌ {A = ℕ} 0 1 = cc in omega arith)) (λ q. (q, let k : ◌≡◌ {A = Result ℕ ℕ} (Err i) (Err (place_of s p ls)) = rw q at e in cc)) (cases_Bool (stands s p ls))
 
--- the ends of the search for a place
-module _ (s : QuoteSide) (p : ℕ) (xs : List Level) (n i : ℕ) (long : n ≤ length xs) (d : Level) (inv : i + place_of s p (drop i (take n xs)) ≡ place_of s p (take n xs)) where
-  module _ (h : i < n) (e : better s (get_or xs i d).price p ≡ false) where
-    at_place : i ≡ place_of s p (take n xs)
-    at_place = place_stop s p xs n i long d inv h e
+-- what the first level that is not better tells, in the levels xs
+module _ (s : QuoteSide) (p : ℕ) (ls xs : List Level) (same : xs ≡ ls) (i : ℕ) (e : i ≡ prefix_len (λ l. better s l.price p) ls) where
+  at : i ≡ place_of s p ls
+  at = e ∙ place_is s p ls
 
-    inside : place_of s p (take n xs) < length (take n xs)
-    inside = rw (length-take-le n xs long) (subst (λ k. k < n) at_place h)
+  module _ (l : Level) (h : i < length xs) (here : (d : Level) → l ≡ get_or xs i d) where
+    inside : place_of s p ls < length ls
+    inside = subst (λ k. k < length ls) at (subst (λ ys. i < length ys) same h)
 
-    same_price : (get_or (take n xs) (place_of s p (take n xs)) d).price ≡ (get_or xs i d).price
-    same_price = ap (λ k. (get_or (take n xs) k d).price) (sym at_place) ∙ ap (λ l. l.price) (get_or-take n xs i d h)
+    price : (get_or ls (place_of s p ls) l).price ≡ l.price
+    price = ap (λ x. x.price) (sym (here l ∙ ap (λ ys. get_or ys i l) same ∙ ap (λ k. get_or ls k l) at))
 
-    pub stop_here : (get_or xs i d).price ≡ p → Ok i ≡ found_at s p (take n xs)
-    stop_here q = place_here s p (take n xs) i (stands_here s p (take n xs) d inside (same_price ∙ q)) at_place
+    pub found_first : l.price ≡ p → Ok i ≡ found_at s p ls
+    found_first q = place_here s p ls i (stands_here s p ls l inside (price ∙ q)) at
 
-    pub stop_away : ((get_or xs i d).price ≡ p → ⊥) → Err i ≡ found_at s p (take n xs)
-    stop_away q = place_away s p (take n xs) i (stands_other s p (take n xs) d inside (λ k. q (sym same_price ∙ k))) at_place
+    pub found_other : (l.price ≡ p → ⊥) → Err i ≡ found_at s p ls
+    found_other q = place_away s p ls i (stands_other s p ls l inside (λ r. q (sym price ∙ r))) at
 
-  pub end_away : n ≤ i → Err i ≡ found_at s p (take n xs)
-  end_away h =
-      let r = place_end s p xs n i long d inv h in
-      place_away s p (take n xs) i (stands_end s p (take n xs) (rw (length-take-le n xs long) (subst (λ k. n ≤ k) r h))) r
+  pub found_after : length xs ≤ i → Err i ≡ found_at s p ls
+  found_after h = place_away s p ls i (stands_end s p ls (subst (λ k. length ls ≤ k) at (subst (λ ys. length ys ≤ i) same h))) at

@@ -99,7 +99,7 @@ within_is : (low high n m : ℕ) → within low high (pos n) ≡ Some m → m �
 within_is low high n m = cond_both (leb low n && leb n high) (Some n) None (λ x. x ≡ Some m → m ≡ n) (λ _ e. cc) (λ _ e. absurd (let z : ◌≡◌ {A = ℕ} 0 1 = cc in omega arith))
 
 module _ (b : Levels) (s : QuoteSide) (fine : (k : ℕ) → ordered s (b k s) ≡ true) (k p n q : ℕ) where
-  call_shown : set_answer s p n (b k s) (b k (opposite s)) ≡ Ok tt → size_at (level_after b s (Ok (k, p, n)) k s) q ≡ cond (eqb q p) n (size_at (b k s) q)
+  call_shown : set_answer s p n (b k s) (b k (opposite s)) ≡ Ok tt → size_at (level_after b s (Ok (k, record { price = p; size = n })) k s) q ≡ cond (eqb q p) n (size_at (b k s) q)
   call_shown ok =
       ap (λ f. size_at (f k s) q) (cond-true (is_ok (set_answer s p n (b k s) (b k (opposite s)))) (replaced b k s (with_size s p n (b k s))) b (ap is_ok ok))
       ∙ ap (λ ls. size_at ls q) (replaced_here b k s (with_size s p n (b k s))) ∙ size_shown p n q s (b k s) (fine k)

@@ -105,11 +105,9 @@ pub left_both : (P : List Level → Type 0) (s : QuoteSide) (p n : ℕ) (own ms 
 left_both P s p n own ms e a b = subst P (sym e) (cond_both (ninth p n own) own (with_size s p n own) P (λ _. a) (λ _. b))
 
 -- one side's list put back leaves both
-pub bid_back : (f : QuoteSide → List Level) (ls : List Level) → f Bid ≡ ls → f ≡ one_side f Bid ls
-bid_back f ls e = one_bid f f ls e refl
-
-pub offer_back : (f : QuoteSide → List Level) (ls : List Level) → f Offer ≡ ls → f ≡ one_side f Offer ls
-offer_back f ls e = one_offer f f ls e refl
+pub side_back : (f : QuoteSide → List Level) (s : QuoteSide) (ls : List Level) → f s ≡ ls → f ≡ one_side f s ls
+side_back f Bid ls e = one_bid f f ls e refl
+side_back f Offer ls e = one_offer f f ls e refl
 
 -- the promise of a level call, from one side's case of it
 module _ (f : QuoteSide → List Level) (p n : ℕ) (s t : QuoteSide) (e : s ≡ t) where

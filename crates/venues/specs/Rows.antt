@@ -1,6 +1,6 @@
 -- The market of a table of series.
-use Rattle.std.specs.Prelude.{◌≡◌, ℕ, zero, suc, ◌<◌, ◌≤◌, true, cond, List, [], ◌∷◌, map, length, get_or, replicate, ◌==◌, slice_index_or, slice_set, refl}
-use Rattle.std.proofs.Common.{sym, ap, ◌∙◌, ⊎_elim}
+use Rattle.std.specs.Prelude.{◌≡◌, ℕ, zero, suc, ◌<◌, ◌≤◌, true, cond, List, [], ◌∷◌, map, length, get_or, ◌==◌, slice_index_or, slice_set, refl}
+use Rattle.std.proofs.Common.{sym, ap, ◌∙◌, ⊎_elim, arith}
 use Rattle.std.proofs.Math.Path.{fun_ext}
 use Rattle.std.proofs.lemmas.List.{get_or_past, get_or-map, length-map, map-set}
 use Rattle.std.proofs.lemmas.Bool.{cases_eq, eq-eqb, ne_eqb}
@@ -49,7 +49,8 @@ rows_uncrossed [] k = refl
 rows_uncrossed (d ∷ ds) zero = d.clear
 rows_uncrossed (d ∷ ds) (suc k) = rows_uncrossed ds k
 
-pub rows_new : (n k : ℕ) (r : SeriesDepth) → series_levels r ≡ no_depth → rows_levels (replicate n r) k ≡ no_depth
-rows_new zero k r e = refl
-rows_new (suc n) zero r e = e
-rows_new (suc n) (suc k) r e = rows_new n k r e
+-- rows without a level
+pub rows_new : (ds : List SeriesDepth) → ((k : ℕ) (d : SeriesDepth) → k < length ds → series_levels (slice_index_or ds k d) ≡ no_depth) → (k : ℕ) → rows_levels ds k ≡ no_depth
+rows_new [] e k = refl
+rows_new (d ∷ ds) e zero = e 0 d (omega arith)
+rows_new (d ∷ ds) e (suc k) = rows_new ds (λ j x h. e (suc j) x (omega arith)) k

@@ -131,7 +131,7 @@ module _ (qs : List (TwoSided Level)) (k : ℕ) (s : QuoteSide) (n : ℕ) where
       let t = taken_ok (side_of (slice_index_or qs k no_quote) s) n r e in
       table_with qs k s r h ∙ ap (replaced (table_levels qs) k s) (sym t.1 ∙ sym (cond-true (can_take (table_levels qs k s) n) (less_first (table_levels qs k s) n) (table_levels qs k s) t.0))
 
-first_as_list : (o : Option Level) → best_of (as_list o) ≡ o
+pub first_as_list : (o : Option Level) → best_of (as_list o) ≡ o
 first_as_list None = refl
 first_as_list (Some l) = refl
 

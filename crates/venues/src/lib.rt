@@ -6,3 +6,4 @@ mod depth;
 pub mod ladder;
 mod reading;
 mod series;
+mod taking;

@@ -13,11 +13,8 @@ fn ranged(x: i32, low: u32, high: u32) -> Option<u32>
     ensures value { result ≡ within low high x }
     ensures bounds { IfSome result (λ n. (low ≤ n) × (n ≤ high)) }
 {
-    if x < 0 {
-        return None;
-    }
-    let n = x as u32;
-    if low <= n && n <= high { Some(n) } else { None }
+    let n = u32::try_from(x).ok()?;
+    (low <= n && n <= high).then_some(n)
 }
 
 // One side of a quote; the price words 0 and 65535 mean no price.
@@ -25,15 +22,11 @@ fn read_level(price: i32, size: i32) -> Result<Option<Level>, MarketFault>
     ensures value { result ≡ level_of price size }
     ensures sound { IfOk result (λ l. ok_level l ≡ true) }
 {
-    let Some(price) = ranged(price, 0, 65535) else {
-        return Err(MarketFault::Range);
-    };
+    let price = ranged(price, 0, 65535).ok_or(MarketFault::Range)?;
     if price == 0 || price == 65535 {
         return Ok(None);
     }
-    let Some(size) = ranged(size, 1, 1_000_000) else {
-        return Err(MarketFault::Range);
-    };
+    let size = ranged(size, 1, 1_000_000).ok_or(MarketFault::Range)?;
     Ok(Some(Level {
         price: price as u16,
         size,
@@ -60,9 +53,7 @@ pub(crate) fn read_quote(
 {
     let bid = read_level(terms.bid_price, terms.bid_size)?;
     let offer = read_level(terms.offer_price, terms.offer_size)?;
-    let Some(series) = ranged(terms.series, 0, last) else {
-        return Err(MarketFault::Series);
-    };
+    let series = ranged(terms.series, 0, last).ok_or(MarketFault::Series)?;
     if is_apart(bid, offer) {
         Ok((series, TwoSided { bid, offer }))
     } else {
@@ -70,19 +61,17 @@ pub(crate) fn read_quote(
     }
 }
 
-// The series, price and size of a level call, in a market whose series are 0 to last.
-pub(crate) fn read_level_call(last: u32, terms: LevelTerms) -> Result<(u32, u16, u32), MarketFault>
+// The series and the level of a level call, in a market whose series are 0 to last.
+pub(crate) fn read_level_call(last: u32, terms: LevelTerms) -> Result<(u32, Level), MarketFault>
     ensures value { result ≡ level_call last terms }
-    ensures bounds { IfOk result (λ c. (c.0 ≤ last) × (1 ≤ c.1) × (c.1 ≤ 65534) × (c.2 ≤ 1000000)) }
+    ensures bounds { IfOk result (λ c. (c.0 ≤ last) × (1 ≤ c.1.price) × (c.1.price ≤ 65534) × (c.1.size ≤ 1000000)) }
 {
-    let Some(price) = ranged(terms.price, 1, 65534) else {
-        return Err(MarketFault::Range);
+    let price = ranged(terms.price, 1, 65534).ok_or(MarketFault::Range)?;
+    let size = ranged(terms.size, 0, 1_000_000).ok_or(MarketFault::Range)?;
+    let series = ranged(terms.series, 0, last).ok_or(MarketFault::Series)?;
+    let level = Level {
+        price: price as u16,
+        size,
     };
-    let Some(size) = ranged(terms.size, 0, 1_000_000) else {
-        return Err(MarketFault::Range);
-    };
-    let Some(series) = ranged(terms.series, 0, last) else {
-        return Err(MarketFault::Series);
-    };
-    Ok((series, price as u16, size))
+    Ok((series, level))
 }

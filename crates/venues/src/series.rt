@@ -7,7 +7,7 @@ ghost use Rattle.venues.specs.Ordered.{ordered, apart};
 
 use crate::depth::Depth;
 
-#[derive(Clone, Copy)]
+#[derive(Drop)]
 pub struct SeriesDepth {
     bids: Depth,
     offers: Depth,

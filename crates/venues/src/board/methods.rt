@@ -3,11 +3,12 @@ ghost use Rattle.std.specs.Prelude.{◌≡◌};
 ghost use Rattle.venues.specs.Boards.{board_levels};
 ghost use Rattle.market.specs.Levels.{no_levels};
 ghost use Rattle.venues.specs.Ordered.{Uncrossed};
-ghost use Rattle.venues.specs.Quotes.{quote_answer, quote_of, quoted_levels, taken_level};
+ghost use Rattle.venues.specs.Quotes.{quote_answer, quote_of, quoted_levels};
 ghost use Rattle.venues.specs.Tables.{ranked_quote, table_past};
 
 use crate::board::{Board, SERIES};
 use crate::reading::read_quote;
+use crate::taking::take_level;
 use market::quote::{Level, MarketFault, QuoteSide, TwoSided};
 use market::terms::QuoteTerms;
 use market::trading::Market;
@@ -36,25 +37,6 @@ impl Board {
     }
 }
 
-// What a take of n contracts leaves of a side with at most one level.
-fn take_level(level: Option<Level>, n: u32) -> Result<Option<Level>, MarketFault>
-    ensures { result ≡ taken_level level n }
-{
-    match level {
-        Some(l) if 0 < n && n <= l.size => {
-            if l.size == n {
-                Ok(None)
-            } else {
-                Ok(Some(Level {
-                    price: l.price,
-                    size: l.size - n,
-                }))
-            }
-        }
-        _ => Err(MarketFault::Take),
-    }
-}
-
 impl Market for Board {
     ghost levels = { board_levels };
 
@@ -65,10 +47,7 @@ impl Market for Board {
     ghost past = { λ m k s h. table_past m.quotes k s (rw m.size h) };
 
     fn best(&self, series: usize, side: QuoteSide) -> Option<Level> {
-        if series >= SERIES {
-            return None;
-        }
-        self.quotes[series].side(side)
+        self.quotes.get(series)?.side(side)
     }
 
     fn take(&mut self, series: usize, side: QuoteSide, n: u32) -> Result<(), MarketFault> {

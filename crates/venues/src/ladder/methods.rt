@@ -13,13 +13,14 @@ use crate::series::SeriesDepth;
 use market::quote::{Level, MarketFault, QuoteSide};
 use market::terms::LevelTerms;
 use market::trading::Market;
+use std::array;
 
 impl Ladder {
     pub fn new() -> Self
         ensures { ladder_levels result ≡ no_levels }
     {
         Ladder {
-            series: [SeriesDepth::new(); 16],
+            series: array::from_fn(|_| SeriesDepth::new()),
         }
     }
 
@@ -31,12 +32,8 @@ impl Ladder {
         ensures shown { result ≡ Ok tt → ShowsSize (ladder_levels self.old) (ladder_levels self.new) terms }
         ensures uncrossed { Uncrossed (ladder_levels self.new) }
     {
-        let (series, price, size) = read_level_call(15, terms)?;
-        let at = series as usize;
-        let mut depth = self.series[at];
-        let answer = depth.level(terms.side, price, size);
-        self.series[at] = depth;
-        answer
+        let (series, level) = read_level_call(15, terms)?;
+        self.series[series as usize].level(terms.side, level)
     }
 }
 
@@ -50,19 +47,13 @@ impl Market for Ladder {
     ghost past = { λ m k s h. row_past m.series k s (rw m.size h) };
 
     fn best(&self, series: usize, side: QuoteSide) -> Option<Level> {
-        if series >= SERIES {
-            return None;
-        }
-        self.series[series].first(side)
+        self.series.get(series)?.first(side)
     }
 
     fn take(&mut self, series: usize, side: QuoteSide, n: u32) -> Result<(), MarketFault> {
         if series >= SERIES {
             return Err(MarketFault::Take);
         }
-        let mut depth = self.series[series];
-        let answer = depth.take(side, n);
-        self.series[series] = depth;
-        answer
+        self.series[series].take(side, n)
     }
 }

@@ -3,6 +3,7 @@ ghost use Rattle.std.specs.Prelude.{◌≡◌, ◌≤◌};
 ghost use Rattle.market.specs.Levels.{take_answer, taken, best_of};
 ghost use Rattle.market.specs.Sides.{opposite};
 ghost use Rattle.venues.specs.Sizes.{blocked, set_answer, set_after};
+ghost use Rattle.venues.specs.Depths.{depth_levels};
 ghost use Rattle.venues.specs.SeriesDepths.{no_depth, series_levels, one_side};
 
 use crate::depth::Depth;
@@ -19,13 +20,19 @@ impl SeriesDepth {
         }
     }
 
+    fn side(&self, side: QuoteSide) -> &Depth
+        ensures { depth_levels result.now ≡ series_levels self.now side }
+    {
+        match side {
+            QuoteSide::Bid => &self.bids,
+            QuoteSide::Offer => &self.offers,
+        }
+    }
+
     pub(crate) fn first(&self, side: QuoteSide) -> Option<Level>
         ensures { result ≡ best_of (series_levels self.now side) }
     {
-        match side {
-            QuoteSide::Bid => self.bids.first(),
-            QuoteSide::Offer => self.offers.first(),
-        }
+        self.side(side).first()
     }
 
     // Takes n contracts from the first level of a side.
@@ -40,41 +47,31 @@ impl SeriesDepth {
     }
 
     // Sets the size at a price of a side; with size 0, the price leaves.
-    pub(crate) fn level(
-        &mut self,
-        side: QuoteSide,
-        price: u16,
-        size: u32,
-    ) -> Result<(), MarketFault>
-        requires price { (1 ≤ price) × (price ≤ 65534) }
-        requires size { size ≤ 1000000 }
-        ensures answer { result ≡ set_answer side price size (series_levels self.old side) (series_levels self.old (opposite side)) }
-        ensures after { series_levels self.new ≡ one_side (series_levels self.old) side (set_after side price size (series_levels self.old side) (series_levels self.old (opposite side))) }
+    pub(crate) fn level(&mut self, side: QuoteSide, level: Level) -> Result<(), MarketFault>
+        requires price { (1 ≤ level.price) × (level.price ≤ 65534) }
+        requires size { level.size ≤ 1000000 }
+        ensures answer { result ≡ set_answer side level.price level.size (series_levels self.old side) (series_levels self.old (opposite side)) }
+        ensures after { series_levels self.new ≡ one_side (series_levels self.old) side (set_after side level.price level.size (series_levels self.old side) (series_levels self.old (opposite side))) }
     {
+        if is_blocked(side, level, self.first(side.opposite())) {
+            return Err(MarketFault::Meets);
+        }
         match side {
-            QuoteSide::Bid => {
-                if is_blocked(QuoteSide::Bid, price, size, self.offers.first()) {
-                    return Err(MarketFault::Meets);
-                }
-                self.bids.set(QuoteSide::Bid, price, size)
-            }
-            QuoteSide::Offer => {
-                if is_blocked(QuoteSide::Offer, price, size, self.bids.first()) {
-                    return Err(MarketFault::Meets);
-                }
-                self.offers.set(QuoteSide::Offer, price, size)
-            }
+            QuoteSide::Bid => self.bids.set(QuoteSide::Bid, level),
+            QuoteSide::Offer => self.offers.set(QuoteSide::Offer, level),
         }
     }
 }
 
 // Whether a level with a size would meet the best of the other side.
-fn is_blocked(side: QuoteSide, price: u16, size: u32, other: Option<Level>) -> bool
-    ensures { result ≡ blocked side price size other }
+fn is_blocked(side: QuoteSide, level: Level, other: Option<Level>) -> bool
+    ensures { result ≡ blocked side level.price level.size other }
 {
-    match (side, other) {
-        (QuoteSide::Bid, Some(offer)) => size != 0 && offer.price <= price,
-        (QuoteSide::Offer, Some(bid)) => size != 0 && price <= bid.price,
-        (_, None) => false,
-    }
+    other.is_some_and(|best| {
+        level.size != 0
+            && match side {
+                QuoteSide::Bid => best.price <= level.price,
+                QuoteSide::Offer => level.price <= best.price,
+            }
+    })
 }

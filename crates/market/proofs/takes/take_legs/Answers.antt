@@ -11,14 +11,14 @@ loop-leg-init g c = (legs_in_turn (g.M.Market.levels c.args.market.now) c.args.n
 
 pub returns-in_err-take : goal.returns-in_err-take
 returns-in_err-take g c =
-    let ok = leg_answer c.as_slice-legs.result.now c.loop-leg.leg-index c.loop-leg-test.true (g.M.Market.levels c.loop-leg.market) c.args.net c.args.units c.used_side.result c.used_side.ensures c.contracts.result c.contracts.ensures c.loop-leg.invariant.0 in
+    let ok = leg_answer c.as_slice-legs.result.now c.loop-leg.leg-index c.loop-leg-test.true (g.M.Market.levels c.loop-leg.market) c.args.net c.args.units c.from.result c.from.ensures c.used_side.result c.used_side.ensures c.contracts.result c.contracts.ensures c.loop-leg.invariant.0 in
     let no = sym c.in_err-take.was ∙ c.take.ensures.answer ∙ ok in
     let z : ◌≡◌ {A = ℕ} 0 1 = cc in absurd (omega arith)
 
 pub loop-leg-preserved : goal.loop-leg-preserved
 loop-leg-preserved g c = (
-  turn_more c.as_slice-legs.result.now c.loop-leg.leg-index c.loop-leg-test.true (g.M.Market.levels c.loop-leg.market) c.args.net c.args.units c.used_side.result c.used_side.ensures c.contracts.result c.contracts.ensures c.loop-leg.invariant.0 (g.M.Market.levels c.take.new.self) c.take.ensures.after,
-  taken_more c.as_slice-legs.result.now c.loop-leg.leg-index c.loop-leg-test.true (g.M.Market.levels c.loop-leg.market) c.args.net c.args.units c.used_side.result c.used_side.ensures c.contracts.result c.contracts.ensures c.loop-leg.invariant.0 (g.M.Market.levels c.take.new.self) c.take.ensures.after _ c.loop-leg.invariant.1,
+  turn_more c.as_slice-legs.result.now c.loop-leg.leg-index c.loop-leg-test.true (g.M.Market.levels c.loop-leg.market) c.args.net c.args.units c.from.result c.from.ensures c.used_side.result c.used_side.ensures c.contracts.result c.contracts.ensures c.loop-leg.invariant.0 (g.M.Market.levels c.take.new.self) c.take.ensures.after,
+  taken_more c.as_slice-legs.result.now c.loop-leg.leg-index c.loop-leg-test.true (g.M.Market.levels c.loop-leg.market) c.args.net c.args.units c.from.result c.from.ensures c.used_side.result c.used_side.ensures c.contracts.result c.contracts.ensures c.loop-leg.invariant.0 (g.M.Market.levels c.take.new.self) c.take.ensures.after _ c.loop-leg.invariant.1,
   c.take.ensures.same ∙ c.loop-leg.invariant.2,
 )
 

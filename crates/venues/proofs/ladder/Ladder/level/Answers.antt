@@ -15,20 +15,20 @@ returns c =
     let read = c.in_ok-series.ensures.value in
     let low = c.in_ok-series.ensures.bounds.0 in
     let within : c.in_ok-series.series < length l.series = omega arith in
-    let d = c.index-self-at.result in
+    let d = c.index-self-series.result in
     let k = c.in_ok-series.series in
-    let p = c.in_ok-series.price in
-    let n = c.in_ok-series.size in
+    let p = c.in_ok-series.level.price in
+    let n = c.in_ok-series.level.size in
     let x = c.args.terms in
     let s = x.side in
     let row = sym (row_at l.series k within d) in
-    let answer = c.level-answer.ensures.answer ∙ ap (λ f. set_answer s p n (f s) (f (opposite s))) row ∙ ap (level_answer (rows_levels l.series) s) read in
-    let after = row_side l.series k within d c.level-answer.new.self s _ c.level-answer.ensures.after ∙ ap (λ f. replaced (rows_levels l.series) k s (set_after s p n (f s) (f (opposite s)))) row ∙ call_left (rows_levels l.series) k s p n (rows_levels l.series k (opposite s)) ∙ ap (level_after (rows_levels l.series) s) read in
+    let answer = c.level.ensures.answer ∙ ap (λ f. set_answer s p n (f s) (f (opposite s))) row ∙ ap (level_answer (rows_levels l.series) s) read in
+    let after = row_side l.series k within d c.level.new.self s _ c.level.ensures.after ∙ ap (λ f. replaced (rows_levels l.series) k s (set_after s p n (f s) (f (opposite s)))) row ∙ call_left (rows_levels l.series) k s p n (rows_levels l.series k (opposite s)) ∙ ap (level_after (rows_levels l.series) s) read in
     record {
       answer = answer;
       after = after;
       shown = λ ok. level_shows 15 (rows_levels l.series) _ x (λ j. rows_ordered l.series j s) (sym answer ∙ ok) after;
-      uncrossed = rows_uncrossed (set l.series k c.level-answer.new.self);
+      uncrossed = rows_uncrossed (set l.series k c.level.new.self);
     }
 
 pub returns-in_err-series : goal.returns-in_err-series

@@ -23,7 +23,7 @@ returns c =
     let d = c.index-self-series.result in
     let row = sym (row_at l.series c.args.series within d) in
     record {
-      answer = c.take-answer.ensures.answer ∙ ap (λ f. take_answer (f c.args.side) c.args.n) row;
-      after = row_side l.series c.args.series within d c.take-answer.new.self c.args.side _ c.take-answer.ensures.after ∙ ap (λ f. replaced (rows_levels l.series) c.args.series c.args.side (taken (f c.args.side) c.args.n)) row;
+      answer = c.take.ensures.answer ∙ ap (λ f. take_answer (f c.args.side) c.args.n) row;
+      after = row_side l.series c.args.series within d c.take.new.self c.args.side _ c.take.ensures.after ∙ ap (λ f. replaced (rows_levels l.series) c.args.series c.args.side (taken (f c.args.side) c.args.n)) row;
       same = refl;
     }
