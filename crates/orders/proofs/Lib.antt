@@ -1,6 +1,6 @@
 pub mod LegChecks
 pub mod Soundness
-pub mod Arrays
+pub mod LegRanges
 pub mod Verdicts
 pub mod Abridged
 pub mod Checked

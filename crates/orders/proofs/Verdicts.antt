@@ -19,7 +19,7 @@ pub passed : {A B : Type 0} (b : Bool) (x y : A) (f : B) → Ok x ≡ check b f 
 passed true x y f e = (refl, cc)
 passed false x y f e = let z : ◌≡◌ {A = ℕ} 0 1 = cc in absurd (omega arith)
 
-passed_at : {A B : Type 0} (o : Option ℕ) (x y : A) (f : ℕ → B) → Ok x ≡ check_at o f (Ok y) → (o ≡ None) × (x ≡ y)
+pub passed_at : {A B : Type 0} (o : Option ℕ) (x y : A) (f : ℕ → B) → Ok x ≡ check_at o f (Ok y) → (o ≡ None) × (x ≡ y)
 passed_at None x y f e = (refl, cc)
 passed_at (Some p) x y f e = let z : ◌≡◌ {A = ℕ} 0 1 = cc in absurd (omega arith)
 

@@ -1,5 +1,6 @@
 -- Checks one after the other: the first that fails gives the refusal.
-use Rattle.std.specs.Prelude.{ℕ, ◌+◌, Bool, cond, ◌&&◌, List, [], ◌∷◌, ℤ, pos, negsuc, Some, None, Ok, Err, Option, Result, int_le}
+use Rattle.std.specs.Prelude.{ℕ, ◌+◌, Bool, cond, ◌&&◌, List, [], ◌∷◌, ℤ, pos, negsuc, Some, None, Err, Option, Result, int_le}
+pub use Rattle.strategy.specs.Few.{map_ok}
 
 -- what comes after if the test is true, else refused with this fault
 abbrev pub check : {A B : Type 0} → Bool → B → Result A B → Result A B
@@ -14,11 +15,6 @@ check_at (Some place) fault next = Err (fault place)
 abbrev pub first_bad : {A : Type 0} → (A → Bool) → ℕ → List A → Option ℕ
 first_bad good n [] = None
 first_bad good n (x ∷ xs) = cond (good x) (first_bad good (n + 1) xs) (Some n)
-
--- the same answer, with f of its value where it is no refusal
-abbrev pub map_ok : {A B C : Type 0} → (A → B) → Result A C → Result B C
-map_ok f (Ok x) = Ok (f x)
-map_ok f (Err e) = Err e
 
 -- a number from low to high
 abbrev pub between : ℤ → ℤ → ℤ → Bool

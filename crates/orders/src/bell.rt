@@ -1,6 +1,7 @@
 // The bells that move the gate from phase to phase.
-ghost use Rattle.std.specs.Prelude.{◌≡◌, ◌≤◌, length};
 ghost use Rattle.orders.specs.Words.{bell_name};
+
+use strategy::word::Word;
 
 #[derive(Clone, Copy)]
 pub enum Bell {
@@ -10,11 +11,10 @@ pub enum Bell {
     Close,
 }
 
-impl Bell {
-    pub fn word(self) -> &'static str
-        ensures text { result.now ≡ bell_name self }
-        ensures short { length result.now ≤ 9 }
-    {
+impl Word for Bell {
+    ghost name = { bell_name };
+
+    fn word(self) -> &'static str {
         match self {
             Bell::Open => "open",
             Bell::Halt => "halt",

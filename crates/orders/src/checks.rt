@@ -34,42 +34,11 @@ fn checked_quantity(quantity: i32) -> Result<Quantity, OrderFault>
         .ok_or(OrderFault::Range(0))
 }
 
-fn two(a: LegTerms, b: LegTerms) -> Result<Legs<TradedLeg>, OrderFault>
-    ensures { map_ok listed result ≡ legs_in_range (a ∷ b ∷ []) }
-{
-    Ok(Legs::Two([a.checked(1)?, b.checked(2)?]))
-}
-
-fn three(a: LegTerms, b: LegTerms, c: LegTerms) -> Result<Legs<TradedLeg>, OrderFault>
-    ensures { map_ok listed result ≡ legs_in_range (a ∷ b ∷ c ∷ []) }
-{
-    Ok(Legs::Three([a.checked(1)?, b.checked(2)?, c.checked(3)?]))
-}
-
-fn four(a: LegTerms, b: LegTerms, c: LegTerms, d: LegTerms) -> Result<Legs<TradedLeg>, OrderFault>
-    ensures { map_ok listed result ≡ legs_in_range (a ∷ b ∷ c ∷ d ∷ []) }
-{
-    Ok(Legs::Four([a.checked(1)?, b.checked(2)?, c.checked(3)?, d.checked(4)?]))
-}
-
 // The legs with their numbers in range.
 fn legs_in_range(legs: Legs<LegTerms>) -> Result<Legs<TradedLeg>, OrderFault>
     ensures { map_ok listed result ≡ legs_in_range (listed legs) }
 {
-    match legs {
-        Legs::Two(legs) => {
-            let [a, b] = legs;
-            two(a, b)
-        }
-        Legs::Three(legs) => {
-            let [a, b, c] = legs;
-            three(a, b, c)
-        }
-        Legs::Four(legs) => {
-            let [a, b, c, d] = legs;
-            four(a, b, c, d)
-        }
-    }
+    legs.try_map(|place, leg| leg.checked(place))
 }
 
 fn order_legs(legs: Legs<LegTerms>) -> Result<OrderLegs, OrderFault>

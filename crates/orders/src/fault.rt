@@ -1,9 +1,10 @@
 // Why an order or a call of the gate is refused. A fault met lower down is carried whole in the upper one.
-ghost use Rattle.std.specs.Prelude.{◌≡◌, ◌≤◌, length};
+ghost use Rattle.std.specs.Prelude.{◌≡◌};
 ghost use Rattle.orders.specs.Faults.{layer_name, order_number, order_place, number_of, layer_of, place_of};
 ghost use Rattle.orders.specs.declared.fault.GateFault.TheVariants as gate;
 
 use market::quote::MarketFault;
+use strategy::word::Word;
 
 // The layer that refuses.
 #[derive(Clone, Copy)]
@@ -14,11 +15,10 @@ pub enum Layer {
     Gate,
 }
 
-impl Layer {
-    pub fn word(self) -> &'static str
-        ensures text { result.now ≡ layer_name self }
-        ensures short { length result.now ≤ 9 }
-    {
+impl Word for Layer {
+    ghost name = { layer_name };
+
+    fn word(self) -> &'static str {
         match self {
             Layer::Line => "line",
             Layer::Order => "order",

@@ -14,15 +14,6 @@ pub struct OrderLegs {
     ghost sound: { sound (listed legs) ≡ true },
 }
 
-// Puts every leg in turned terms, or leaves all as they are.
-fn turn_all(legs: &mut [TradedLeg], turned: bool)
-    ensures { legs.new ≡ map (turned_leg turned) legs.old }
-{
-    for leg in legs.iter_mut() {
-        leg.side = leg.side.turned(turned);
-    }
-}
-
 impl OrderLegs {
     pub(crate) fn new(legs: Legs<TradedLeg>) -> OrderLegs
         requires { sound (listed legs) ≡ true }
@@ -42,13 +33,12 @@ impl OrderLegs {
     pub fn turned(self, turned: bool) -> OrderLegs
         ensures { listed result.legs ≡ map (turned_leg turned) (listed self.legs) }
     {
-        let mut legs = self.as_legs();
-        match &mut legs {
-            Legs::Two(legs) => turn_all(legs, turned),
-            Legs::Three(legs) => turn_all(legs, turned),
-            Legs::Four(legs) => turn_all(legs, turned),
+        OrderLegs {
+            legs: self.legs.map(|leg| TradedLeg {
+                side: leg.side.turned(turned),
+                ..leg
+            }),
         }
-        OrderLegs { legs }
     }
 }
 

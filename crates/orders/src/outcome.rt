@@ -1,6 +1,7 @@
 // How a sweep ends.
-ghost use Rattle.std.specs.Prelude.{◌≡◌, ◌≤◌, length};
 ghost use Rattle.orders.specs.Words.{outcome_name};
+
+use strategy::word::Word;
 
 // With no order left that would fill, or with one left and a full tape.
 #[derive(Clone, Copy)]
@@ -9,11 +10,10 @@ pub enum Outcome {
     Full,
 }
 
-impl Outcome {
-    pub fn word(self) -> &'static str
-        ensures text { result.now ≡ outcome_name self }
-        ensures short { length result.now ≤ 9 }
-    {
+impl Word for Outcome {
+    ghost name = { outcome_name };
+
+    fn word(self) -> &'static str {
         match self {
             Outcome::Done => "done",
             Outcome::Full => "full",
