@@ -1,2 +1,1 @@
-pub mod Search
-pub mod Listed
+pub mod Resolved

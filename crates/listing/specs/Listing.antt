@@ -1,5 +1,6 @@
 -- What listing a series answers and leaves.
-use Rattle.std.specs.Prelude.{ℕ, Bool, true, false, cond, ◌&&◌, ◌||◌, List, [], ◌∷◌, ◌++◌, length, Ok, Err, Result, ◌==◌, nat_le}
+use Rattle.std.specs.Prelude.{ℕ, Bool, true, false, cond, ◌&&◌, List, [], ◌∷◌, ◌++◌, length, Ok, Err, Result, ◌==◌, nat_le}
+use Rattle.std.specs.List.{list_any}
 use Rattle.strategy.specs.declared.leg.Kind.{Kind}
 use Rattle.strategy.specs.declared.leg.Kind.TheVariants.{Call, Put}
 use Rattle.strategy.specs.declared.leg.Series.{Series}
@@ -17,8 +18,7 @@ abbrev pub same_series : Series → Series → Bool
 same_series a b = a.underlying == b.underlying && (same_kind a.kind b.kind && (a.strike == b.strike && a.expiry == b.expiry))
 
 abbrev pub is_listed : Series → List Series → Bool
-is_listed x [] = false
-is_listed x (y ∷ ys) = same_series y x || is_listed x ys
+is_listed x t = list_any (λ y. same_series y x) t
 
 -- the number of a new series: 256 fill the table, and none is listed twice
 abbrev pub listing_answer : List Series → Series → Result ℕ GateFault

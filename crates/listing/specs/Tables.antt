@@ -1,7 +1,7 @@
 -- The series of a table, by their numbers.
-use Rattle.std.specs.Prelude.{List, take}
+use Rattle.std.specs.Prelude.{List}
 use Rattle.strategy.specs.declared.leg.Series.{Series}
 use Rattle.listing.specs.declared.table.SeriesTable.{SeriesTable}
 
 abbrev pub table : SeriesTable → List Series
-table t = take t.count t.series
+table t = t.series.items

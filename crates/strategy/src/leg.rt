@@ -2,8 +2,9 @@
 ghost use Rattle.std.specs.Prelude.{◌≡◌};
 ghost use Rattle.strategy.specs.Legs.{option, opposite, turned_side, flipped};
 
-#[derive(Clone, Copy, PartialEq, Eq)]
+#[derive(Clone, Copy, PartialEq, Eq, Default)]
 pub enum Kind {
+    #[default]
     Call,
     Put,
 }
@@ -15,7 +16,7 @@ pub enum Side {
 }
 
 // An option series. The strike is in cents, the expiry is a day number.
-#[derive(Clone, Copy, PartialEq, Eq)]
+#[derive(Clone, Copy, PartialEq, Eq, Default)]
 pub struct Series {
     pub underlying: u16,
     pub kind: Kind,

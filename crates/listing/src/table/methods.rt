@@ -1,39 +1,24 @@
 // Listing series, and looking up those of an order's legs.
-ghost use Rattle.std.specs.Prelude.{◌≡◌, ◌≤◌, [], map, length};
+ghost use Rattle.std.specs.Prelude.{◌≡◌, []};
 ghost use Rattle.strategy.specs.Few.{listed};
 ghost use Rattle.orders.specs.Checks.{map_ok};
 ghost use Rattle.listing.specs.Tables.{table};
-ghost use Rattle.listing.specs.Listing.{same_series, is_listed, listing_answer, listing_after};
-ghost use Rattle.listing.specs.Resolving.{series_of, first_unlisted, first_other, option_leg, resolving};
+ghost use Rattle.listing.specs.Listing.{listing_answer, listing_after};
+ghost use Rattle.listing.specs.Resolving.{other_underlying, listed_leg, listed_legs, resolving};
 
-use super::{ROOM, SeriesTable};
+use super::SeriesTable;
+use arrayvec::ArrayVec;
 use market::leg::TradedLeg;
 use orders::fault::GateFault;
-use strategy::leg::{Kind, Leg, Series};
+use strategy::leg::{Leg, Series};
 use strategy::legs::Legs;
 
-const NO_SERIES: Series = Series {
-    underlying: 0,
-    kind: Kind::Call,
-    strike: 0,
-    expiry: 0,
-};
-
-fn same(a: Series, b: Series) -> bool
-    ensures { result ≡ same_series a b }
+// The first leg, from 1, whose underlying differs from that of leg 1.
+fn differing(legs: &Legs<Leg>) -> Option<u8>
+    ensures { result ≡ other_underlying (listed legs.now) }
 {
-    a == b
-}
-
-fn is_listed(table: &[Series], series: Series) -> bool
-    ensures { result ≡ is_listed series table.now }
-{
-    for other in table {
-        if same(*other, series) {
-            return true;
-        }
-    }
-    false
+    let first = legs.as_slice()[0].series.underlying;
+    legs.place_where(|leg| leg.series.underlying != first)
 }
 
 impl SeriesTable {
@@ -41,8 +26,7 @@ impl SeriesTable {
         ensures { table result ≡ [] }
     {
         SeriesTable {
-            series: [NO_SERIES; ROOM],
-            count: 0,
+            series: ArrayVec::new(),
         }
     }
 
@@ -51,94 +35,42 @@ impl SeriesTable {
         ensures answer { result ≡ listing_answer (table self.old) series }
         ensures after { table self.new ≡ listing_after (table self.old) series }
     {
-        let number = self.count;
-        if number >= ROOM {
+        if self.series.is_full() {
             return Err(GateFault::TableFull);
         }
-        if is_listed(&self.series[0..number], series) {
+        if self.series.contains(&series) {
             return Err(GateFault::AlreadyListed);
         }
-        self.series[number] = series;
-        self.count = number + 1;
-        Ok(number as u16)
+        let number = self.series.len() as u16;
+        self.series.push(series);
+        Ok(number)
     }
 
-    // A leg's series; one past the last is no series at all.
-    fn series_of(&self, leg: &TradedLeg) -> Series
-        ensures { result ≡ series_of (table self.now) leg.now }
+    // A leg as an option of its series, if that is listed.
+    fn option(&self, leg: TradedLeg) -> Option<Leg>
+        ensures { result ≡ listed_leg (table self.now) leg }
     {
-        let at = usize::from(leg.series);
-        if at < self.count {
-            self.series[at]
-        } else {
-            NO_SERIES
-        }
-    }
-
-    fn option(&self, leg: &TradedLeg) -> Leg
-        ensures { result ≡ option_leg (table self.now) leg.now }
-    {
-        Leg {
+        self.series.get(usize::from(leg.series)).map(|series| Leg {
             side: leg.side,
             ratio: leg.ratio,
-            series: self.series_of(leg),
-        }
+            series: *series,
+        })
     }
 
-    // The first leg whose series is not listed, from 1.
-    fn first_unlisted(&self, legs: &[TradedLeg]) -> Option<u8>
-        requires { length legs.now ≤ 4 }
-        ensures { result ≡ first_unlisted (table self.now) legs.now }
+    fn options(&self, legs: &Legs<TradedLeg>) -> Result<Legs<Leg>, GateFault>
+        ensures { map_ok listed result ≡ listed_legs (table self.now) (listed legs.now) }
     {
-        for i in 0..legs.len() {
-            if usize::from(legs[i].series) >= self.count {
-                return Some(i as u8 + 1);
-            }
-        }
-        None
-    }
-
-    // The first leg whose underlying differs from that of leg 1, from 1.
-    fn first_other(&self, legs: &[TradedLeg], underlying: u16) -> Option<u8>
-        requires { length legs.now ≤ 4 }
-        ensures { result ≡ first_other (table self.now) underlying legs.now }
-    {
-        for i in 0..legs.len() {
-            if self.series_of(&legs[i]).underlying != underlying {
-                return Some(i as u8 + 1);
-            }
-        }
-        None
+        legs.try_map(|place, leg| self.option(leg).ok_or(GateFault::NotListed(place)))
     }
 
     // The legs as options of their series, in the order that they have.
     pub fn resolve(&self, legs: &Legs<TradedLeg>) -> Result<Legs<Leg>, GateFault>
         ensures { map_ok listed result ≡ resolving (table self.now) (listed legs.now) }
     {
-        let legs = legs.as_slice();
-        if let Some(place) = self.first_unlisted(legs) {
-            return Err(GateFault::NotListed(place));
+        let options = self.options(legs)?;
+        match differing(&options) {
+            Some(place) => Err(GateFault::Underlying(place)),
+            None => Ok(options),
         }
-        if let Some(place) = self.first_other(legs, self.series_of(&legs[0]).underlying) {
-            return Err(GateFault::Underlying(place));
-        }
-        Ok(self.options(legs))
-    }
-
-    fn options(&self, legs: &[TradedLeg]) -> Legs<Leg>
-        requires two { 2 ≤ length legs.now }
-        requires four { length legs.now ≤ 4 }
-        ensures { listed result ≡ map (option_leg (table self.now)) legs.now }
-    {
-        let a = self.option(&legs[0]);
-        let b = self.option(&legs[1]);
-        if legs.len() == 2 {
-            return Legs::Two([a, b]);
-        }
-        let c = self.option(&legs[2]);
-        if legs.len() == 3 {
-            return Legs::Three([a, b, c]);
-        }
-        Legs::Four([a, b, c, self.option(&legs[3])])
     }
 }
