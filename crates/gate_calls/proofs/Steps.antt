@@ -48,8 +48,8 @@ pub leads_on : (c : Call) (a : Verdict) (s : State) (m : Levels) (t : State) (m'
 leads_on c a s m t m' step = record { step = step; keeps = λ h before. goes_on h s m c a (since s t) t m' before step }
 
 -- the same call and answer under other names
-pub as_asked : (c d : Call) (a b : Verdict) (s : State) (m : Levels) (t : State) (m' : Levels) → d ≡ c → b ≡ a → LeadsOn c a s m t m' → LeadsOn d b s m t m'
-as_asked c d a b s m t m' same is h = subst (λ x. LeadsOn x b s m t m') (sym same) (subst (λ x. LeadsOn c x s m t m') (sym is) h)
+pub as_asked : {c d : Call} {a b : Verdict} {s : State} {m : Levels} {t : State} {m' : Levels} → LeadsOn c a s m t m' → d ≡ c → b ≡ a → LeadsOn d b s m t m'
+as_asked {c} {d} {a} {b} {s} {m} {t} {m'} h same is = subst (λ x. LeadsOn x b s m t m') (sym same) (subst (λ x. LeadsOn c x s m t m') (sym is) h)
 
 -- Calls that write no line
 
