@@ -39,19 +39,18 @@ fn cents(n: i64) -> Field<'static>
     Field::Number(n)
 }
 
-fn name(text: &'static str) -> Field<'static>
-    requires { length text.now ≤ 9 }
-    ensures is { atom result ≡ word text.now }
+fn name<W: Word>(value: W) -> Field<'static>
+    ensures is { atom result ≡ word (W.name value) }
     ensures short { Short (atom result) }
 {
-    Field::Word(text)
+    Field::Word(value.word())
 }
 
 fn price(value: Option<i64>) -> Field<'static>
     ensures is { atom result ≡ side value }
     ensures short { Short (atom result) }
 {
-    value.map_or(name("none"), cents)
+    value.map_or(Field::Word("none"), cents)
 }
 
 // How a fault of the line layer is answered.
@@ -79,9 +78,9 @@ impl Answer {
             Answer::Quote(series) => form("quote", &[count(u64::from(series))]),
             Answer::Level(series) => form("level", &[count(u64::from(series))]),
             Answer::Order { number, class } => {
-                form("order", &[count(u64::from(number)), name(class.word())])
+                form("order", &[count(u64::from(number)), name(class)])
             }
-            Answer::Phase { bell, units } => form("phase", &[name(bell.word()), count(units)]),
+            Answer::Phase { bell, units } => form("phase", &[name(bell), count(units)]),
             Answer::Cancel(units) => form("cancel", &[count(units)]),
             Answer::Work { units, net } => form("work", &[count(units), cents(net)]),
             Answer::Sweep {
@@ -90,7 +89,7 @@ impl Answer {
                 outcome,
             } => form(
                 "sweep",
-                &[count(u64::from(lines)), count(units), name(outcome.word())],
+                &[count(u64::from(lines)), count(units), name(outcome)],
             ),
             Answer::Net { bid, offer } => form("net", &[price(bid), price(offer)]),
             Answer::Refused {
@@ -99,7 +98,7 @@ impl Answer {
                 place,
             } => form(
                 "refused",
-                &[count(u64::from(number)), name(layer.word()), count(place)],
+                &[count(u64::from(number)), name(layer), count(place)],
             ),
         }
     }
