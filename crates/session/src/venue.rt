@@ -45,13 +45,7 @@ impl Venue for Board {
             return None;
         };
         let answer = self
-            .quote(
-                terms.series,
-                terms.bid_price,
-                terms.bid_size,
-                terms.offer_price,
-                terms.offer_size,
-            )
+            .quote(terms)
             .map(|()| Answer::Quote(series_number(terms.series)));
         Some(answer)
     }
@@ -68,7 +62,7 @@ impl Venue for Ladder {
             return None;
         };
         let answer = self
-            .level(terms.series, terms.side, terms.price, terms.size)
+            .level(terms)
             .map(|()| Answer::Level(series_number(terms.series)));
         Some(answer)
     }
