@@ -45,7 +45,7 @@ impl From<SessionFault> for Answer {
 
     fn from(fault: SessionFault) -> Self {
         match fault {
-            SessionFault::Line(fault) => Answer::of_line_fault(fault),
+            SessionFault::Line(fault) => fault.into(),
             SessionFault::Gate(fault) => Answer::Refused {
                 number: u32::from(fault.number()),
                 layer: fault.layer(),
