@@ -53,8 +53,7 @@ impl<'a, T: Copy> GrowList<'a, T> {
     pub fn get(&self, i: usize) -> Option<T>
         ensures { MatchOption result (length (items self.now) ≤ i) (λ x. (i < length (items self.now)) × ((d : T) → x ≡ slice_index_or (items self.now) i d)) }
     {
-        let used = self.as_slice();
-        if i < used.len() { Some(used[i]) } else { None }
+        self.as_slice().get(i).copied()
     }
 
     // All elements, oldest first.
@@ -62,6 +61,6 @@ impl<'a, T: Copy> GrowList<'a, T> {
         ensures { result.now ≡ items self.now }
     {
         let len = self.len();
-        &self.slots[0..len]
+        &self.slots[..len]
     }
 }

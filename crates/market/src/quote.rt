@@ -10,6 +10,7 @@ pub enum QuoteSide {
 }
 
 impl QuoteSide {
+    // Its own match, as strategy's Side has: one trait for both would hold the same two.
     pub fn opposite(self) -> QuoteSide
         ensures { result ≡ opposite self }
     {

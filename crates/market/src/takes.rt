@@ -62,6 +62,7 @@ pub fn take_legs<M: Market>(
     if !are_distinct(legs) || !are_ready(market, legs, net, units) {
         return Err(MarketFault::Take);
     }
+    // A loop, since a closure that changes the market would say nothing of it.
     for leg in legs {
         market.take(
             usize::from(leg.series),

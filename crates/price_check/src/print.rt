@@ -1,34 +1,34 @@
 // Posts the quotes of a row of the sheet, and prints what the price check says of it.
-use crate::sheet::{Price, Row};
+use crate::sheet::{Price, QuotedLeg, Row};
 use anyhow::anyhow;
 use market::leg::TradedLeg;
 use market::net::net_market;
 use market::quote::{QuoteSide, TwoSided};
 use market::terms::QuoteTerms;
 use market::trading::Market;
+use orders::fault::GateFault;
 use std::{fmt, io};
 use strategy::class::Strategy;
-use strategy::leg::{Kind, Leg, Side};
+use strategy::leg::{Kind, Side};
 use strategy::legs::Legs;
 use strategy::price::{check_execution, check_limit};
 use strategy::word::Word;
 use venues::board::Board;
 
-// The refusal of an execution that the protections prevent.
-const PREVENTED: u8 = 34;
-
+// A number that may be absent.
 #[derive(Clone, Copy)]
-struct OrNone(Option<i64>);
+struct OrNone<T>(Option<T>);
 
-impl fmt::Display for OrNone {
+impl<T: fmt::Display> fmt::Display for OrNone<T> {
     fn fmt<W: fmt::Write>(&self, f: &mut fmt::Formatter<W>) -> fmt::Result {
-        match self.0 {
+        match &self.0 {
             Some(cents) => write!(f, "{cents}"),
             None => f.write_str("none"),
         }
     }
 }
 
+// Functions: another crate's Side and Kind can have no Display of this one.
 fn side_word(side: Side) -> &'static str {
     match side {
         Side::Buy => "buy",
@@ -43,69 +43,49 @@ fn kind_word(kind: Kind) -> &'static str {
     }
 }
 
-fn leg_price(board: &Board, series: usize, side: QuoteSide) -> OrNone {
-    match board.best(series, side) {
-        Some(level) => OrNone(Some(i64::from(level.price))),
-        None => OrNone(None),
-    }
-}
-
-fn net_price(net: Option<i32>) -> OrNone {
-    match net {
-        Some(price) => OrNone(Some(i64::from(price))),
-        None => OrNone(None),
-    }
-}
-
-// The legs as they trade, their series numbered from 0 in the order of the row.
-fn numbered(legs: &Legs<Leg>) -> Legs<TradedLeg> {
-    match legs {
-        Legs::Two([a, b]) => Legs::Two([traded(a, 0), traded(b, 1)]),
-        Legs::Three([a, b, c]) => Legs::Three([traded(a, 0), traded(b, 1), traded(c, 2)]),
-        Legs::Four([a, b, c, d]) => Legs::Four([
-            traded(a, 0),
-            traded(b, 1),
-            traded(c, 2),
-            traded(d, 3),
-        ]),
-    }
-}
-
-fn traded(leg: &Leg, series: u8) -> TradedLeg {
+// The leg as it trades.
+fn traded(quoted: QuotedLeg) -> TradedLeg {
     TradedLeg {
-        side: leg.side,
-        ratio: leg.ratio,
-        series,
+        side: quoted.leg.side,
+        ratio: quoted.leg.ratio,
+        series: quoted.series,
     }
 }
 
-fn post_quotes(board: &mut Board, quotes: &[(i32, i32)]) -> anyhow::Result<()> {
-    let mut series = 0;
-    for (bid, offer) in quotes {
+fn post_quotes(board: &mut Board, legs: &Legs<QuotedLeg>) -> anyhow::Result<()> {
+    for quoted in legs.as_slice() {
         let terms = QuoteTerms {
-            series,
-            bid_price: *bid,
+            series: i32::from(quoted.series),
+            bid_price: quoted.bid,
             bid_size: 10,
-            offer_price: *offer,
+            offer_price: quoted.offer,
             offer_size: 10,
         };
         if board.quote(terms).is_err() {
             return Err(anyhow!("a quote of the sheet is refused"));
         }
-        series = series.wrapping_add(1);
     }
     Ok(())
 }
 
-fn print_legs(rt: &HostRuntime, board: &Board, legs: &Legs<Leg>) -> io::Result<()> {
-    for (series, leg) in legs.as_slice().iter().enumerate() {
+fn leg_price(board: &Board, series: u8, side: QuoteSide) -> OrNone<u16> {
+    OrNone(
+        board
+            .best(usize::from(series), side)
+            .map(|level| level.price),
+    )
+}
+
+fn print_legs(rt: &HostRuntime, board: &Board, legs: &Legs<QuotedLeg>) -> io::Result<()> {
+    for quoted in legs.as_slice() {
+        let leg = quoted.leg;
         let side = side_word(leg.side);
         let ratio = leg.ratio;
         let kind = kind_word(leg.series.kind);
         let strike = leg.series.strike;
         let expiry = leg.series.expiry;
-        let bid = leg_price(board, series, QuoteSide::Bid);
-        let offer = leg_price(board, series, QuoteSide::Offer);
+        let bid = leg_price(board, quoted.series, QuoteSide::Bid);
+        let offer = leg_price(board, quoted.series, QuoteSide::Offer);
         println!(rt;
             "  {side} {ratio} {kind}, strike {strike}, expiry {expiry}: bid {bid}, offer {offer}"
         )?;
@@ -114,7 +94,8 @@ fn print_legs(rt: &HostRuntime, board: &Board, legs: &Legs<Leg>) -> io::Result<(
 }
 
 fn print_values(rt: &HostRuntime, row: &Row, net: TwoSided<i32>) -> io::Result<()> {
-    let strategy = Strategy::of(&row.legs);
+    let legs = row.legs();
+    let strategy = Strategy::of(&legs);
     let class = strategy.class.word();
     let entered = if strategy.turned {
         "turned"
@@ -122,17 +103,17 @@ fn print_values(rt: &HostRuntime, row: &Row, net: TwoSided<i32>) -> io::Result<(
         "as entered"
     };
     println!(rt; "  class {class}, {entered}")?;
-    let bid = net_price(net.bid);
-    let offer = net_price(net.offer);
+    let bid = OrNone(net.bid);
+    let offer = OrNone(net.offer);
     println!(rt; "  net market {bid} to {offer}")?;
-    let minimum = OrNone(strategy.minimum(&row.legs, row.buffers));
+    let minimum = OrNone(strategy.minimum(&legs, row.buffers));
     let maximum = OrNone(strategy.maximum(row.buffers));
     println!(rt; "  Minimum {minimum}, Maximum {maximum}")
 }
 
 fn print_limit(rt: &HostRuntime, row: &Row, side: Side, limit: i32) -> io::Result<()> {
     let word = side_word(side);
-    match check_limit(&row.legs, side, limit, row.buffers).refusal {
+    match check_limit(&row.legs(), side, limit, row.buffers).refusal {
         Some(refusal) => {
             let number = refusal.number();
             println!(rt; "  {word}, limit {limit}: refused, {number}")
@@ -146,18 +127,19 @@ fn print_at_market(rt: &HostRuntime, row: &Row, side: Side, net: Option<i32>) ->
     let Some(price) = net else {
         return println!(rt; "  {word} at the market: no net price");
     };
-    if check_execution(&row.legs, side, price, row.buffers).prevented {
-        println!(rt; "  {word} at the market, {price}: prevented, {PREVENTED}")
+    if check_execution(&row.legs(), side, price, row.buffers).prevented {
+        let number = GateFault::Prevented.number();
+        println!(rt; "  {word} at the market, {price}: prevented, {number}")
     } else {
         println!(rt; "  {word} at the market, {price}: passes")
     }
 }
 
 pub fn print_row(rt: &HostRuntime, board: &mut Board, row: &Row) -> anyhow::Result<()> {
-    post_quotes(board, row.quotes)?;
+    post_quotes(board, &row.quoted)?;
     println!(rt; "{}", row.title)?;
-    print_legs(rt, board, &row.legs)?;
-    let net = net_market(board, &numbered(&row.legs));
+    print_legs(rt, board, &row.quoted)?;
+    let net = net_market(board, &row.quoted.map(traded));
     print_values(rt, row, net)?;
     for (side, price) in row.prices {
         match (side, price) {

@@ -10,17 +10,32 @@ pub enum Price {
     AtMarket,
 }
 
+// A leg, its series on the board, and the bid and the offer word of its quote there.
+#[derive(Clone, Copy)]
+pub struct QuotedLeg {
+    pub leg: Leg,
+    pub series: u8,
+    pub bid: i32,
+    pub offer: i32,
+}
+
 #[derive(Clone, Copy)]
 pub struct Row {
     pub title: &'static str,
-    pub legs: Legs<Leg>,
-    // for each leg the bid and the offer word of its quote
-    pub quotes: &'static [(i32, i32)],
+    pub quoted: Legs<QuotedLeg>,
     pub buffers: Buffers,
     pub prices: &'static [(Side, Price)],
 }
 
-const NO_QUOTE: (i32, i32) = (0, 65535);
+impl Row {
+    pub fn legs(&self) -> Legs<Leg> {
+        self.quoted.map(|quoted: QuotedLeg| quoted.leg)
+    }
+}
+
+const NO_BID: i32 = 0;
+
+const NO_OFFER: i32 = 65535;
 
 pub fn option(kind: Kind, strike: u32) -> Series {
     Series {
@@ -47,6 +62,16 @@ pub fn sell(ratio: u8, series: Series) -> Leg {
     }
 }
 
+// A leg with its quote.
+fn quoted(series: u8, leg: Leg, bid: i32, offer: i32) -> QuotedLeg {
+    QuotedLeg {
+        leg,
+        series,
+        bid,
+        offer,
+    }
+}
+
 // Buffers for verticals, and none for the other classes.
 fn for_verticals(minimum: u16, absolute: u16, percentage: u16) -> Buffers {
     let none = Buffer {
@@ -68,13 +93,12 @@ fn for_verticals(minimum: u16, absolute: u16, percentage: u16) -> Buffers {
 fn box_spread() -> Row {
     Row {
         title: "Box",
-        legs: Legs::Four([
-            buy(1, option(Kind::Call, 696000)),
-            sell(1, option(Kind::Put, 696000)),
-            sell(1, option(Kind::Call, 697000)),
-            buy(1, option(Kind::Put, 697000)),
+        quoted: Legs::Four([
+            quoted(0, buy(1, option(Kind::Call, 696000)), 3080, 3405),
+            quoted(1, sell(1, option(Kind::Put, 696000)), 3350, 3600),
+            quoted(2, sell(1, option(Kind::Call, 697000)), 2750, 2900),
+            quoted(3, buy(1, option(Kind::Put, 697000)), 3640, 3705),
         ]),
-        quotes: &[(3080, 3405), (3350, 3600), (2750, 2900), (3640, 3705)],
         buffers: for_verticals(0, 0, 0),
         prices: &[
             (Side::Buy, Price::Limit(1000)),
@@ -86,11 +110,10 @@ fn box_spread() -> Row {
 fn vertical() -> Row {
     Row {
         title: "Vertical, Maximum Value Buffer the lesser of 10 cents and 5 percent",
-        legs: Legs::Two([
-            buy(1, option(Kind::Call, 2000)),
-            sell(1, option(Kind::Call, 2500)),
+        quoted: Legs::Two([
+            quoted(0, buy(1, option(Kind::Call, 2000)), 1055, 1070),
+            quoted(1, sell(1, option(Kind::Call, 2500)), 535, 550),
         ]),
-        quotes: &[(1055, 1070), (535, 550)],
         buffers: for_verticals(10, 10, 500),
         prices: &[
             (Side::Buy, Price::Limit(510)),
@@ -103,9 +126,9 @@ fn vertical() -> Row {
 fn vertical_flipped() -> Row {
     Row {
         title: "The same vertical with every leg flipped",
-        legs: Legs::Two([
-            sell(1, option(Kind::Call, 2000)),
-            buy(1, option(Kind::Call, 2500)),
+        quoted: Legs::Two([
+            quoted(0, sell(1, option(Kind::Call, 2000)), 1055, 1070),
+            quoted(1, buy(1, option(Kind::Call, 2500)), 535, 550),
         ]),
         prices: &[
             (Side::Sell, Price::Limit(-510)),
@@ -119,11 +142,10 @@ fn vertical_flipped() -> Row {
 fn vertical_at_a_credit() -> Row {
     Row {
         title: "Vertical at a credit, Minimum Value Buffer 10 cents",
-        legs: Legs::Two([
-            buy(1, option(Kind::Call, 3000)),
-            sell(1, option(Kind::Call, 3100)),
+        quoted: Legs::Two([
+            quoted(0, buy(1, option(Kind::Call, 3000)), 100, 120),
+            quoted(1, sell(1, option(Kind::Call, 3100)), 95, 115),
         ]),
-        quotes: &[(100, 120), (95, 115)],
         buffers: for_verticals(10, 0, 0),
         prices: &[
             (Side::Sell, Price::Limit(-10)),
@@ -136,11 +158,10 @@ fn vertical_at_a_credit() -> Row {
 fn vertical_of_width_250() -> Row {
     Row {
         title: "Vertical of width 250, Maximum Value Buffer the lesser of 10 cents and 3.33 percent",
-        legs: Legs::Two([
-            buy(1, option(Kind::Put, 2250)),
-            sell(1, option(Kind::Put, 2000)),
+        quoted: Legs::Two([
+            quoted(0, buy(1, option(Kind::Put, 2250)), NO_BID, NO_OFFER),
+            quoted(1, sell(1, option(Kind::Put, 2000)), NO_BID, NO_OFFER),
         ]),
-        quotes: &[NO_QUOTE, NO_QUOTE],
         buffers: for_verticals(0, 10, 333),
         prices: &[
             (Side::Buy, Price::Limit(258)),
@@ -152,29 +173,27 @@ fn vertical_of_width_250() -> Row {
 fn all_bought() -> Row {
     Row {
         title: "All bought",
-        legs: Legs::Two([
-            buy(2, option(Kind::Call, 2000)),
-            buy(1, option(Kind::Put, 2000)),
+        quoted: Legs::Two([
+            quoted(0, buy(2, option(Kind::Call, 2000)), NO_BID, NO_OFFER),
+            quoted(1, buy(1, option(Kind::Put, 2000)), NO_BID, NO_OFFER),
         ]),
-        quotes: &[NO_QUOTE, NO_QUOTE],
         buffers: for_verticals(0, 0, 0),
         prices: &[(Side::Buy, Price::Limit(3)), (Side::Buy, Price::Limit(2))],
     }
 }
 
-fn calls_one_two_one(high: u32) -> Legs<Leg> {
+fn calls_one_two_one(high: u32, first_offer: i32) -> Legs<QuotedLeg> {
     Legs::Three([
-        buy(1, option(Kind::Call, 10000)),
-        sell(2, option(Kind::Call, 10500)),
-        buy(1, option(Kind::Call, high)),
+        quoted(0, buy(1, option(Kind::Call, 10000)), 900, first_offer),
+        quoted(1, sell(2, option(Kind::Call, 10500)), 510, 530),
+        quoted(2, buy(1, option(Kind::Call, high)), 240, 250),
     ])
 }
 
 fn butterfly() -> Row {
     Row {
         title: "Butterfly",
-        legs: calls_one_two_one(11000),
-        quotes: &[(900, 920), (510, 530), (240, 250)],
+        quoted: calls_one_two_one(11000, 920),
         buffers: for_verticals(0, 0, 0),
         prices: &[(Side::Buy, Price::AtMarket)],
     }
@@ -183,7 +202,7 @@ fn butterfly() -> Row {
 fn unequally_spaced() -> Row {
     Row {
         title: "Butterfly with its strikes unequally spaced",
-        legs: calls_one_two_one(11100),
+        quoted: calls_one_two_one(11100, 920),
         ..butterfly()
     }
 }
@@ -191,7 +210,7 @@ fn unequally_spaced() -> Row {
 fn one_offer_absent() -> Row {
     Row {
         title: "Butterfly with one offer absent",
-        quotes: &[(900, 65535), (510, 530), (240, 250)],
+        quoted: calls_one_two_one(11000, NO_OFFER),
         prices: &[(Side::Buy, Price::AtMarket), (Side::Sell, Price::AtMarket)],
         ..butterfly()
     }

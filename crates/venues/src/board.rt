@@ -8,6 +8,7 @@ const SERIES: usize = 256;
 
 #[derive(Drop)]
 pub struct Board {
+    // by series, in fixed memory
     quotes: [TwoSided<Level>; 256],
     ghost size: { length quotes ≡ 256 },
     ghost ok: { (k : ℕ) → sound (slice_index_or quotes k no_quote) ≡ true },

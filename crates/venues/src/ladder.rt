@@ -7,6 +7,7 @@ const SERIES: usize = 16;
 
 #[derive(Drop)]
 pub struct Ladder {
+    // by number, in fixed memory
     series: [SeriesDepth; 16],
     ghost size: { length series ≡ 16 },
 }

@@ -27,6 +27,7 @@ fn read_level(price: i32, size: i32) -> Result<Option<Level>, MarketFault>
         return Ok(None);
     }
     let size = ranged(size, 1, 1_000_000).ok_or(MarketFault::Range)?;
+    // The range is tested above: a `try_from` would want a refusal that cannot come.
     Ok(Some(Level {
         price: price as u16,
         size,

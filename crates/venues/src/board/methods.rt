@@ -54,6 +54,7 @@ impl Market for Board {
         if series >= SERIES {
             return Err(MarketFault::Take);
         }
+        // By its place: what a change through `get_mut` leaves of the table was not proved.
         let quote = self.quotes[series];
         let rest = take_level(quote.side(side), n)?;
         self.quotes[series] = quote.with(side, rest);

@@ -54,6 +54,7 @@ impl Market for Ladder {
         if series >= SERIES {
             return Err(MarketFault::Take);
         }
+        // By its place: what a change through `get_mut` leaves of the series was not proved.
         self.series[series].take(side, n)
     }
 }

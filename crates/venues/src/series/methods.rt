@@ -40,6 +40,7 @@ impl SeriesDepth {
         ensures answer { result ≡ take_answer (series_levels self.old side) n }
         ensures after { series_levels self.new ≡ one_side (series_levels self.old) side (taken (series_levels self.old side) n) }
     {
+        // Each side in place: a `&mut` to one could break what holds of both.
         match side {
             QuoteSide::Bid => self.bids.take(n),
             QuoteSide::Offer => self.offers.take(n),
@@ -56,6 +57,7 @@ impl SeriesDepth {
         if is_blocked(side, level, self.first(side.opposite())) {
             return Err(MarketFault::Meets);
         }
+        // Each side in place, as in `take`.
         match side {
             QuoteSide::Bid => self.bids.set(QuoteSide::Bid, level),
             QuoteSide::Offer => self.offers.set(QuoteSide::Offer, level),
