@@ -1,6 +1,7 @@
 -- The checks of an order, one after the other.
-use Rattle.std.proofs.Common.{◌≡◌, ℕ, Bool, true, false, not, ◌&&◌, ◌||◌, List, [], ◌∷◌, map, Some, None, Ok, Err, Option, Result, sym, refl, ap, ◌∙◌, arith}
+use Rattle.std.proofs.Common.{◌≡◌, ℕ, Bool, true, false, not, ◌&&◌, ◌||◌, List, [], map, Some, None, Ok, Err, Option, Result, sym, refl, ap, ◌∙◌, arith}
 use Rattle.std.proofs.lemmas.Bool.{and_from, cond-true}
+use Rattle.std.proofs.lemmas.Simd.{map-map}
 use Rattle.market.specs.declared.leg.TradedLeg.{TradedLeg}
 use Rattle.orders.specs.declared.fault.OrderFault.{OrderFault}
 use Rattle.orders.specs.declared.fault.OrderFault.TheVariants.{LegCount, Range, Repeated, Ratios}
@@ -24,12 +25,10 @@ passed_at None x y f e = (refl, cc)
 passed_at (Some p) x y f e = let z : ◌≡◌ {A = ℕ} 0 1 = cc in absurd (omega arith)
 
 pub same_series_lem : (legs : List LegTerms) → map (λ g. g.series) (map traded_leg legs) ≡ map series_number legs
-same_series_lem [] = refl
-same_series_lem (l ∷ ls) = ap (λ ks. series_number l ∷ ks) (same_series_lem ls)
+same_series_lem legs = map-map (λ (g : TradedLeg). g.series) traded_leg legs
 
 same_ratios : (legs : List LegTerms) → map (λ g. g.ratio) (map traded_leg legs) ≡ map ratio_of legs
-same_ratios [] = refl
-same_ratios (l ∷ ls) = ap (λ rs. ratio_of l ∷ rs) (same_ratios ls)
+same_ratios legs = map-map (λ (g : TradedLeg). g.ratio) traded_leg legs
 
 abbrev faulty : List ℕ → Bool
 faulty ratios = uneven ratios || reducible ratios

@@ -1,8 +1,7 @@
 // An order in turned terms, as the gate keeps it.
-ghost use Rattle.std.specs.Prelude.{◌≡◌, true};
+ghost use Rattle.std.specs.Prelude.{◌≡◌};
 ghost use Rattle.orders.specs.Entered.{entered_order};
-ghost use Rattle.orders.specs.Ranges.{limit_in_range};
-ghost use Rattle.orders.specs.TurnedTerms.{turned_limit, terms_of, strategy_of, turned_terms};
+ghost use Rattle.orders.specs.TurnedTerms.{terms_of, strategy_of, turned_terms};
 
 use crate::legs::OrderLegs;
 use crate::order::CheckedOrder;
@@ -32,13 +31,6 @@ impl TurnedOrder {
     }
 }
 
-fn turned_limit(limit: Option<i32>, turned: bool) -> Option<i32>
-    requires { limit_in_range limit ≡ true }
-    ensures { result ≡ turned_limit turned limit }
-{
-    limit.map(|limit| if turned { -limit } else { limit })
-}
-
 impl CheckedOrder {
     // The order in the terms of the strategy that its legs are.
     pub fn turned(self, strategy: Strategy) -> TurnedOrder
@@ -49,7 +41,7 @@ impl CheckedOrder {
             class: strategy.class,
             width: strategy.width,
             side: self.side.turned(turned),
-            limit: turned_limit(self.limit, turned),
+            limit: self.limit.map(|limit| if turned { -limit } else { limit }),
             legs: self.legs.turned(turned),
         }
     }
