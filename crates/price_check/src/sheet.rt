@@ -28,7 +28,7 @@ pub struct Row {
 }
 
 impl Row {
-    pub fn legs(&self) -> Legs<Leg> {
+    pub(crate) fn legs(&self) -> Legs<Leg> {
         self.quoted.map(|quoted: QuotedLeg| quoted.leg)
     }
 }
