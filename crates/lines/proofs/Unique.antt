@@ -1,11 +1,14 @@
 -- A line has one column at fault, one reading and one answer.
-use Rattle.std.proofs.Common.{◌≡◌, ℕ, ◌+◌, ◌-◌, ◌<◌, ◌≤◌, List, [], ◌∷◌, ◌++◌, length, take, drop, sym, refl, ap, ◌∙◌, subst, ⊎_elim, append_assoc, arith, length-take}
+use Rattle.std.proofs.Common.{◌≡◌, ℕ, ◌+◌, ◌-◌, ◌<◌, ◌≤◌, List, [], ◌∷◌, ◌++◌, length, take, drop, sym, refl, ap, ◌∙◌, subst, ⊎_elim, append_assoc, arith, length-take, Result, Ok, Err}
 use Rattle.std.proofs.lemmas.List.{take_all, take-take, take-append-drop}
 use Rattle.std.proofs.lemmas.Bool.{cases_lt}
 use Rattle.lines.specs.declared.fault.LineFault.{LineFault}
 use Rattle.lines.specs.declared.fault.LineFault.TheVariants.{ShortArea, TooLong, Broken, Unknown}
 use Rattle.lines.specs.Forms.{Atom, word, number, Item, single, group, atom_text, item_text, Form, OneReading, Begins, FaultAt, OnlyFault}
+use Rattle.std.specs.Result.{IsErr}
 use Rattle.lines.specs.Faults.{Refuses}
+use Rattle.lines.specs.Cursors.{Opens, Only}
+use Rattle.lines.specs.declared.cursor.Cursor.{Cursor}
 use Rattle.lines.specs.Tokens.{Lexeme, named, opens, closes, atom_lexeme, spaced_atom_lexemes, spaced_item_lexemes, form_lexemes}
 use Rattle.lines.proofs.Lexes.{form_left}
 
@@ -122,3 +125,11 @@ kept_long kept whole e h = omega (arith, ap length e, length-take 513 whole)
 
 pub kept_whole : (kept whole : List ℕ) → kept ≡ take 513 whole → length kept ≤ 512 → kept ≡ whole
 kept_whole kept whole e h = e ∙ take_all 513 whole (omega (arith, ap length e, length-take 513 whole))
+
+pub refused_only : (line : List ℕ) (r : Result Cursor LineFault) → IsErr r → Opens line r → Only line r
+refused_only line (Ok c) h o = absurd (cc)
+refused_only line (Err e) h o = λ f. one_refusal line e f o
+
+pub refused_cut : (line : List ℕ) (r : Result Cursor LineFault) → IsErr r → Opens line r → length line ≤ 512 → (whole : List ℕ) → line ≡ take 513 whole → Opens whole r
+refused_cut line (Ok c) h o short whole e = absurd (cc)
+refused_cut line (Err f) h o short whole e = subst (λ l. Refuses l f) (kept_whole line whole e short) o

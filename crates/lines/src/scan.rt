@@ -70,41 +70,36 @@ impl State {
     fn step(self, b: u8) -> Option<State>
         ensures { result ≡ next self b }
     {
-        match self {
-            State::Start if b == b'(' => Some(State::Name),
-            State::Name if b.is_ascii_lowercase() => Some(State::Letters {
-                grouped: false,
-                room: 8,
+        match (self, b) {
+            (State::Start, b'(') => Some(State::Name),
+            (State::Name, b'a'..=b'z') => opened_by(false, b),
+            (State::Item, b'(') => Some(State::Member),
+            (State::Item, _) => opened_by(false, b),
+            (State::Member, _) => opened_by(true, b),
+            (State::Minus { grouped }, _) => led_by(grouped, b),
+            (
+                State::Letters {
+                    grouped,
+                    room: room @ 1..,
+                },
+                b'a'..=b'z',
+            ) => Some(State::Letters {
+                grouped,
+                room: room - 1,
             }),
-            State::Item => {
-                if b == b'(' {
-                    Some(State::Member)
-                } else {
-                    opened_by(false, b)
-                }
-            }
-            State::Member => opened_by(true, b),
-            State::Minus { grouped } => led_by(grouped, b),
-            State::Letters { grouped, room } => {
-                if room > 0 && b.is_ascii_lowercase() {
-                    Some(State::Letters {
-                        grouped,
-                        room: room - 1,
-                    })
-                } else {
-                    ended_by(grouped, b)
-                }
-            }
-            State::Digits { grouped, room } => {
-                if room > 0 && b.is_ascii_digit() {
-                    Some(State::Digits {
-                        grouped,
-                        room: room - 1,
-                    })
-                } else {
-                    ended_by(grouped, b)
-                }
-            }
+            (
+                State::Digits {
+                    grouped,
+                    room: room @ 1..,
+                },
+                b'0'..=b'9',
+            ) => Some(State::Digits {
+                grouped,
+                room: room - 1,
+            }),
+            (State::Letters { grouped, .. } | State::Digits { grouped, .. }, _) => ended_by(
+                grouped, b,
+            ),
             _ => None,
         }
     }

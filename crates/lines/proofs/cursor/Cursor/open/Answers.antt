@@ -1,39 +1,39 @@
-use Rattle.std.proofs.Common.{◌-◌, ◌<◌, ◌≤◌, length, take, subst, arith}
-use Rattle.lines.specs.Cursors.{left}
-use Rattle.lines.specs.Faults.{Read, Refuses}
-use Rattle.lines.specs.Lexing.{left_from}
-use Rattle.lines.specs.declared.fault.LineFault.TheVariants.{TooLong, Broken}
+use Rattle.std.proofs.Common.{◌≤◌, ◌-◌, length, take, drop, subst, arith}
+use Rattle.std.proofs.lemmas.Grind.{common_steps}
+use Rattle.lines.specs.Cursors.{left, Opens}
+use Rattle.lines.specs.Faults.{Read}
+use Rattle.lines.specs.Forms.{Form}
+use Rattle.lines.specs.Lexing.{lexed}
 use Rattle.lines.proofs.Lexes.{form_left}
-use Rattle.lines.proofs.Unique.{one_reading, one_refusal, none_of_a_form, kept_long, kept_whole}
+use Rattle.lines.proofs.Unique.{one_reading, refused_only, refused_cut, kept_long, kept_whole}
 use Rattle.lines.proofs.cursor.Cursor.open.Goals as goal
 
-pub returns-then-line-gt-LONGEST : goal.returns-then-line-gt-LONGEST
-returns-then-line-gt-LONGEST c =
-    let line = c.args.line.now in
-    let long : 512 < length line = omega arith in
-    record { answer = long; only = λ f. one_refusal line TooLong f long; cut = λ whole e. kept_long line whole e long }
+pub returns-then-line-gt-LONGEST-clause-cut : goal.returns-then-line-gt-LONGEST-clause-cut
+returns-then-line-gt-LONGEST-clause-cut c = λ whole e. kept_long c.args.line.now whole e c.if-line-gt-LONGEST.true
 
-pub returns-in-Err : goal.returns-in-Err
-returns-in-Err c =
-    let line = c.args.line.now in
-    let short : length line ≤ 512 = omega arith in
-    let here : Refuses line (Broken c.in-Err.column) = (short, c.in-Err.ensures.fault) in
-    record {
-      answer = here;
-      only = λ f. one_refusal line (Broken c.in-Err.column) f here;
-      cut = λ whole e. subst (λ l. Refuses l (Broken c.in-Err.column)) (kept_whole line whole e short) here;
-    }
+pub returns-in_err-map_err-clause-only : goal.returns-in_err-map_err-clause-only
+returns-in_err-map_err-clause-only c =
+    let told : Opens c.args.line.now c.from_residual.result = grind (arith, common_steps) in
+    refused_only c.args.line.now c.from_residual.result c.from_residual.ensures.0 told
 
-pub returns : goal.returns
+pub returns-in_err-map_err-clause-cut : goal.returns-in_err-map_err-clause-cut
+returns-in_err-map_err-clause-cut c =
+    let told : Opens c.args.line.now c.from_residual.result = grind (arith, common_steps) in
+    refused_cut c.args.line.now c.from_residual.result c.from_residual.ensures.0 told (omega arith)
+
+read : (c : goal.After-result-2-1) → Read c.args.line.now (lexed 2 0 (take (length c.args.line.now - 1 - 1) (drop 1 c.args.line.now)))
+read c =
+    let line = c.args.line.now in
+    let form : Form line = grind (arith, common_steps) in
+    record { short = omega arith; form = form; one = one_reading line; says = λ head items s. form_left line head items s }
+
+pub returns-clause-answer : goal.returns-clause-answer
 unfolding left
-returns c =
+returns-clause-answer c = read c
+
+pub returns-clause-cut : goal.returns-clause-cut
+unfolding left
+returns-clause-cut c =
     let line = c.args.line.now in
     let short : length line ≤ 512 = omega arith in
-    let form = c.in_default.ensures in
-    let found = left_from (take (length line - 1) line) 1 in
-    let read : Read line found = record { short = short; form = form; one = one_reading line; says = λ head items s. form_left line head items s } in
-    record {
-      answer = read;
-      only = none_of_a_form line short form;
-      cut = λ whole e. subst (λ l. Read l found) (kept_whole line whole e short) read;
-    }
+    λ whole e. subst (λ l. Read l (lexed 2 0 (take (length line - 1 - 1) (drop 1 line)))) (kept_whole line whole e short) (read c)
