@@ -447,11 +447,9 @@ pub dead : (p : List ℕ) → run (Some Start) p ≡ None → Begins p → ⊥
 dead p e f = none_some (sym (run_none f.0) ∙ sym (ap (λ o. run o f.0) e) ∙ sym (run_append (Some Start) p f.0) ∙ complete (p ++ f.0) f.1)
 
 -- one more byte of the line
-pub run_next : (from : Option State) (line : List ℕ) (i : ℕ) (s : State) (o : Option State) → i < length line → run from (take i line) ≡ Some s → next s (get_or line i 0) ≡ o → run from (take (i + 1) line) ≡ o
-run_next from line i s o h e is = ap (run from) (take_more line i 0 h) ∙ run_append from (take i line) (get_or line i 0 ∷ []) ∙ ap (λ p. onto p (get_or line i 0)) e ∙ is
-
 pub run_more : (line : List ℕ) (i : ℕ) (s : State) (o : Option State) → i < length line → run (Some Start) (take i line) ≡ Some s → next s (get_or line i 0) ≡ o → run (Some Start) (take (i + 1) line) ≡ o
-run_more = run_next (Some Start)
+run_more line i s o h e is =
+    ap (run (Some Start)) (take_more line i 0 h) ∙ run_append (Some Start) (take i line) (get_or line i 0 ∷ []) ∙ ap (λ p. onto p (get_or line i 0)) e ∙ is
 
 pub run_all : (line : List ℕ) (i : ℕ) (s : State) → length line ≤ i → run (Some Start) (take i line) ≡ Some s → run (Some Start) line ≡ Some s
 run_all line i s h e = ap (run (Some Start)) (sym (take_all i line h)) ∙ e

@@ -1,5 +1,5 @@
 -- The tokens of any bytes, and those of a form.
-use Rattle.std.proofs.Common.{◌≡◌, ℕ, zero, suc, ◌+◌, ◌-◌, ◌*◌, ◌/◌, ◌%◌, ◌^◌, ◌<◌, ◌≤◌, Bool, true, false, cond, eqb, ltb, List, [], ◌∷◌, ◌++◌, length, get_or, take, drop, ℤ, pos, negsuc, ◌-ℤ◌, neg_ℤ, nat_abs, IsUtf8, decimal, Some, None, Option, MatchOption, sym, refl, ap, ◌∙◌, append_assoc, add-zero, arith, length-append, length-drop, w32, to_z, of_z}
+use Rattle.std.proofs.Common.{◌≡◌, ℕ, zero, suc, ◌+◌, ◌-◌, ◌*◌, ◌/◌, ◌%◌, ◌^◌, ◌<◌, ◌≤◌, Bool, true, false, cond, eqb, ltb, List, [], ◌∷◌, ◌++◌, length, get_or, take, drop, ℤ, pos, negsuc, neg_ℤ, nat_abs, IsUtf8, decimal, Some, None, Option, MatchOption, sym, refl, ap, ◌∙◌, append_assoc, add-zero, arith, length-append, length-drop}
 use Rattle.std.specs.Fmt.{signed_decimal}
 use Rattle.std.specs.List.{AllByRecursion, prefix_len, fold}
 use Rattle.std.proofs.lemmas.List.Sums.{take_while-cons, prefix_len-le-length, prefix_len_passes, prefix_len_stops}
@@ -9,7 +9,6 @@ use Rattle.std.proofs.lemmas.Str.{IsUtf8-from_ascii}
 use Rattle.std.proofs.lemmas.Fmt.{decimal_by_steps, decimal_nonempty, digits_decimal}
 use Rattle.std.proofs.ByRecursion.{All-get_or, All-weaker}
 use Rattle.std.proofs.lemmas.List.{get_or_append_left, get_or-drop, get_or-take, drop_at, take_at}
-use Rattle.std.proofs.lemmas.Int.{ints}
 use Rattle.std.proofs.lemmas.Bool.{cond-true, lt-ltb, eqb-true, true≢false}
 use Rattle.std.proofs.lemmas.Bool.Decides.{nat_tests}
 use Rattle.lines.proofs.Accepts.{Digit, own}
@@ -170,12 +169,6 @@ numeral_signed (pos n) h =
     let d = first_digit n h in
     simp (differs (get_or (decimal n) 0 0) 45 (λ e. omega arith)) (ap pos (magnitude_decimal n h))
 numeral_signed (negsuc n) h = ap (λ m. neg_ℤ (pos m)) (magnitude_decimal (suc n) (omega arith))
-
-pub numeral_minus : (bs : List ℕ) → get_or bs 0 0 ≡ 45 → numeral bs ≡ neg_ℤ (pos (magnitude 0 (drop 1 bs)))
-numeral_minus bs e = ap (λ b. cond (eqb b 45) (neg_ℤ (pos (magnitude 0 (drop 1 bs)))) (pos (magnitude 0 bs))) e
-
-pub negated : (n : ℕ) → n < 2 ^ 30 → to_z w32 (of_z w32 (pos 0 -ℤ to_z w32 n)) ≡ neg_ℤ (pos n)
-negated n h = omega (arith, ints)
 
 not_letter : (b : ℕ) → b ≤ 57 → within 97 122 b ≡ false
 not_letter b h = grind (arith, nat_tests)
