@@ -22,7 +22,7 @@ const TAPE_LINES: usize = 4096;
 
 const NOTICES: usize = 64;
 
-// What stands in the tape's memory before its first line.
+// What stands in the tape's memory before its first line: no class, side or legs are blank by themselves.
 const NO_LINE: TapeLine = TapeLine {
     order: 0,
     class: Class::Other,

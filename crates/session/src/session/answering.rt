@@ -90,6 +90,7 @@ impl<'a, V: Venue> Session<'a, V> {
         })
     }
 
+    // A command and a call are two types, so that each call is named here once.
     fn obey(&mut self, command: Command) -> Result<Answer, SessionFault>
         ensures obeys { Obeys command (view V.Venue self.old) (told result) (view V.Venue self.new) }
         ensures law { HandsOn (view V.Venue self.old) (view V.Venue self.new) }
