@@ -56,6 +56,7 @@ impl<K: Keyword> FromParts for K {
     }
 }
 
+// This and the next are a line each: with the bracket as a parameter the contract would need both cases.
 pub(crate) fn next_open(from: &mut Cursor) -> Option<()>
     ensures { MatchOption result ((more : List Part) → rest from.old ≢ opens ∷ more) (λ _. rest from.old ≡ opens ∷ rest from.new) }
 {

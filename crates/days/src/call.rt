@@ -1,4 +1,4 @@
-// What the gate is asked.
+// What the gate is asked. A line can say more, and is read below the gate, so that a command is a type of its own.
 use orders::bell::Bell;
 use orders::records::{NoticeTerms, OrderTerms, SeriesTerms};
 

@@ -6,7 +6,7 @@ use orders::bell::Bell;
 use orders::outcome::Outcome;
 use strategy::class::Class;
 
-// The number under which an order was accepted, 0 for an exempt one, and its class.
+// The number under which an order was accepted, 0 for an exempt one, as its answer says it, and its class.
 #[derive(Clone, Copy)]
 pub struct Acceptance {
     pub number: u16,

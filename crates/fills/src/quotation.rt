@@ -37,7 +37,7 @@ struct NetSide<'a, M> {
 }
 
 impl<M: Market> NetSide<'_, M> {
-    // The first level that a leg's net price uses; without one, nothing at price 0.
+    // The first level that a leg's net price uses; without one, nothing at price 0, which is what its readers make of none.
     fn level(&self, leg: &TradedLeg) -> Level
         ensures { result ≡ used_level (M.levels self.now.market.now) self.now.side leg.now }
     {

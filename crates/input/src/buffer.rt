@@ -9,6 +9,7 @@ const KEPT: usize = 513;
 
 const CAPACITY: usize = 16384;
 
+// Fixed memory, so that a source of lines can be made without fail.
 #[derive(Drop)]
 pub(crate) struct LineBuffer {
     bytes: [u8; CAPACITY],

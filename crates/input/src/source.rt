@@ -13,6 +13,7 @@ pub struct LineSource<R> {
     held: LineBuffer,
 }
 
+// The text is this loop's own.
 fn gave_up() -> io::Error {
     io::Error::new(ErrorKind::TimedOut, "gave up reading after 2^64 tries")
 }

@@ -2,7 +2,7 @@
 ghost use Rattle.std.specs.Prelude.{◌≡◌, ◌+◌, ◌<◌, ◌≤◌, [], ◌∷◌, ◌++◌, length, is_ok, MatchOption, MatchResult, nat_le, nat_lt, slice_index_or};
 ghost use Rattle.lent.specs.Items.{items, room};
 
-// The first `len` of the lent slots are in use; the list is full when all of them are.
+// The first `len` of the lent slots are in use; the list is full when all of them are. No `Vec`: the memory is the caller's.
 #[derive(Drop)]
 pub struct GrowList<'a, T> {
     slots: &'a mut [T],

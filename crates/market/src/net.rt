@@ -27,6 +27,7 @@ fn net_side<M: Market>(market: &M, legs: &[TradedLeg], side: QuoteSide) -> Optio
     ensures { result ≡ net_side (M.levels market.now) legs.now side }
 {
     // A loop, since no `sum` of an iterator says that a missing price ends it.
+    // a loop: an iterator's sum has no bound that a contract could give
     let mut sum: i32 = 0;
     for leg in legs {
         let level = market.best(usize::from(leg.series), leg.used_side(side))?;

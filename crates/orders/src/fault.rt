@@ -59,6 +59,7 @@ pub enum GateFault {
     NoticesFull,
 }
 
+// By hand, so that a contract knows the variant.
 impl From<OrderFault> for GateFault {
     ghost from_gives = { λ e r. r ≡ gate.Order e };
 
@@ -133,7 +134,7 @@ impl GateFault {
         }
     }
 
-    // The leg from 1, or 0.
+    // The leg from 1, or 0, as a refusal says it.
     pub fn place(self) -> u8
         ensures { result ≡ place_of self }
     {

@@ -21,6 +21,7 @@ pub(crate) fn in_range(n: i32, low: u32, high: u32, place: u8) -> Result<u32, Or
         .ok_or(OrderFault::Range(place))
 }
 
+// The casts below are of numbers that `in_range` let through: a `try_from` would refuse nothing.
 impl TryFrom<SeriesTerms> for Series {
     type Error = OrderFault;
 

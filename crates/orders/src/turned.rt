@@ -8,7 +8,7 @@ use crate::order::CheckedOrder;
 use strategy::class::{Class, Strategy};
 use strategy::leg::Side;
 
-// One without a limit is a market order. The width is 0 where the class has none.
+// One without a limit is a market order. The width is 0 where the class has none, and then nothing reads it.
 #[derive(Clone, Copy)]
 pub struct TurnedOrder {
     pub class: Class,

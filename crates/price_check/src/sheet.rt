@@ -33,6 +33,7 @@ impl Row {
     }
 }
 
+// The feed's own words for no price.
 const NO_BID: i32 = 0;
 
 const NO_OFFER: i32 = 65535;

@@ -30,6 +30,7 @@ fn box_in_each_of_its_orders(rt: HostRuntime) {
         buy(1, put(1000)),
     ];
     let mut orders = 0u32;
+    // the orders are the places themselves
     for i in 0..4usize {
         for j in 0..4usize {
             for k in 0..4usize {

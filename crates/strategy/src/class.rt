@@ -33,14 +33,15 @@ impl Word for Class {
     }
 }
 
-// A long form. Neighbouring strikes are `width` cents apart; 0 where the class has no width.
+// A long form. Neighbouring strikes are `width` cents apart; 0 where the class has no width, and then nothing reads it.
 #[derive(Clone, Copy)]
 pub struct Form {
     pub class: Class,
     pub width: u32,
 }
 
-// What an order's legs are: a long form, perhaps only after every leg is flipped, or of class other.
+// What an order's legs are: a long form, perhaps only after every leg is flipped, or of class other. Class and width stand side by side,
+// since a class goes out without its width.
 #[derive(Clone, Copy)]
 pub struct Strategy {
     pub class: Class,

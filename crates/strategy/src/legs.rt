@@ -27,7 +27,7 @@ impl<T: Copy> Legs<T> {
         }
     }
 
-    // As many, each by `f`.
+    // As many, each by `f`. The arms stand here once: an array's own `map` asks more of its caller.
     pub fn map<U, F: Fn(T) -> U>(self, f: F) -> Legs<U>
         requires { All (F.pre f) (listed self) }
         ensures each { (g : T → U) → Gives (F.post f) g → result ≡ each_leg g self }

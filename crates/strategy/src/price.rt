@@ -83,7 +83,7 @@ fn below(price: i64, least: Option<i64>) -> bool
     least.is_some_and(|least| price < least)
 }
 
-// Whether a price is above the Maximum, where there is one.
+// Whether a price is above the Maximum, where there is one. One function with `below` would have to be told which way to look.
 fn above(price: i64, most: Option<i64>) -> bool
     ensures { result ≡ above price most }
 {

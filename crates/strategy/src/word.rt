@@ -1,4 +1,4 @@
-// Things that output names by a word.
+// Things that output names by a word. No `Display`: a form's field is the word itself, and how long it may be.
 ghost use Rattle.std.specs.Prelude.{◌≡◌, ℕ, ◌≤◌, List, length};
 
 pub trait Word {

@@ -6,6 +6,7 @@ use market::quote::{Level, TwoSided};
 
 const SERIES: usize = 256;
 
+// Fixed memory: the series is the place.
 #[derive(Drop)]
 pub struct Board {
     // by series, in fixed memory

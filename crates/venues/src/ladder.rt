@@ -5,6 +5,7 @@ use crate::series::SeriesDepth;
 
 const SERIES: usize = 16;
 
+// Fixed memory: the series is the place.
 #[derive(Drop)]
 pub struct Ladder {
     // by number, in fixed memory
