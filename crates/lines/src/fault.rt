@@ -15,6 +15,7 @@ pub enum LineFault {
 }
 
 impl LineFault {
+    // The fault's number in an answer, which is one of the gate's stated forms.
     pub fn number(self) -> u8
         ensures { result ≡ number self }
     {

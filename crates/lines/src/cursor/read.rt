@@ -46,7 +46,8 @@ impl<'a> Cursor<'a> {
         }
     }
 
-    // The next token, where there is one.
+    // The next token, where there is one. (No Iterator: a cursor is copied to look ahead, which an
+    // iterator should not be.)
     pub fn next(&mut self) -> Option<Token<'a>>
         ensures { MatchOption result (left self.old ≡ []) (λ t. left self.old ≡ lexeme t ∷ left self.new) }
     {
