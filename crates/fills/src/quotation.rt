@@ -1,7 +1,7 @@
 // The fill that an order would get from a market now, or why it would get none.
 ghost use Rattle.std.specs.Prelude.{◌≡◌, ◌≤◌, List, IfOk};
-ghost use Rattle.strategy.specs.declared.leg.Leg.{Leg};
 ghost use Rattle.std.specs.List.{All};
+ghost use Rattle.strategy.specs.declared.leg.Leg.{Leg};
 ghost use Rattle.strategy.specs.Few.{listed, each_leg};
 ghost use Rattle.strategy.specs.Forms.{Long};
 ghost use Rattle.fills.specs.FillLaws.{Filled, FillLaw, LowBuyFills};
