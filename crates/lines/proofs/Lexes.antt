@@ -1,22 +1,19 @@
 -- The tokens of any bytes, and those of a form.
-use Rattle.std.proofs.Common.{◌≡◌, ℕ, zero, suc, ◌+◌, ◌-◌, ◌*◌, ◌/◌, ◌%◌, ◌^◌, ◌<◌, ◌≤◌, Bool, true, false, cond, eqb, ltb, List, [], ◌∷◌, ◌++◌, length, get_or, take, drop, ℤ, pos, negsuc, neg_ℤ, nat_abs, IsUtf8, decimal, Some, None, Option, MatchOption, sym, refl, ap, ◌∙◌, append_assoc, add-zero, arith, length-append, length-drop}
+use Rattle.std.proofs.Common.{◌≡◌, ℕ, zero, suc, ◌+◌, ◌-◌, ◌*◌, ◌/◌, ◌%◌, ◌^◌, ◌<◌, ◌≤◌, true, false, eqb, ltb, List, [], ◌∷◌, ◌++◌, length, get_or, take, drop, ℤ, pos, negsuc, neg_ℤ, nat_abs, IsUtf8, decimal, sym, refl, ap, ◌∙◌, append_assoc, add-zero, add-one, arith, length-append, length-drop, length-take, drop-cons}
 use Rattle.std.specs.Fmt.{signed_decimal}
-use Rattle.std.specs.List.{AllByRecursion, prefix_len, fold}
-use Rattle.std.proofs.lemmas.List.Sums.{take_while-cons, prefix_len-le-length, prefix_len_passes, prefix_len_stops}
-use Rattle.std.proofs.lemmas.List.Folds.{length-prefix_len}
+use Rattle.std.specs.List.{AllByRecursion, fold}
 use Rattle.std.proofs.lemmas.Str.Ascii.{IsAscii-from_reads}
 use Rattle.std.proofs.lemmas.Str.{IsUtf8-from_ascii}
 use Rattle.std.proofs.lemmas.Fmt.{decimal_by_steps, decimal_nonempty, digits_decimal}
 use Rattle.std.proofs.ByRecursion.{All-get_or, All-weaker}
-use Rattle.std.proofs.lemmas.List.{get_or_append_left, get_or-drop, get_or-take, drop_at, take_at}
-use Rattle.std.proofs.lemmas.Bool.{cond-true, lt-ltb, eqb-true, true≢false}
+use Rattle.std.proofs.lemmas.List.{get_or_append_left, get_or-drop, get_or-take, drop_all, drop_at, drop-drop, take_at}
+use Rattle.std.proofs.lemmas.Bool.{cond-true, lt-ltb}
 use Rattle.std.proofs.lemmas.Bool.Decides.{nat_tests}
 use Rattle.lines.proofs.Accepts.{Digit, own}
 use Rattle.lines.specs.Scanner.{within}
 use Rattle.lines.specs.Forms.{Letter, Atom, word, number, Item, single, group, IsAtom, IsItem, atom_text, item_text, spaced_atoms, spaced_items, Spells}
-use Rattle.lines.specs.declared.cursor.Token.{Token}
-use Rattle.lines.specs.Tokens.{Lexeme, lexeme, named, counted, opens, closes, atom_lexeme, spaced_atom_lexemes, item_lexemes, spaced_item_lexemes, form_lexemes}
-use Rattle.lines.specs.Lexing.{ink, inked, with_digit, magnitude, numeral, atom_of, lexed}
+use Rattle.lines.specs.Tokens.{named, counted, opens, closes, atom_lexeme, spaced_atom_lexemes, item_lexemes, spaced_item_lexemes, form_lexemes}
+use Rattle.lines.specs.Lexing.{ink, inked, with_digit, magnitude, numeral, atom_of, lexed, left_from}
 
 pub lexed_skip : (c k : ℕ) (bs : List ℕ) → lexed c k bs ≡ lexed (c + k) 0 (drop k bs)
 lexed_skip c zero [] = refl
@@ -64,73 +61,66 @@ pub lexed_ink : (c : ℕ) (xs : List ℕ) → 0 < length xs → ink (get_or xs 0
 lexed_ink c [] l h = absurd (omega arith)
 lexed_ink c (b ∷ bs) l h = lexed_atom c b bs h
 
--- What a cursor goes past.
+pub inked_is : (xs : List ℕ) (n : ℕ) → n ≤ length xs → ((k : ℕ) → k < n → ink (get_or xs k 0) ≡ true) → (n < length xs → ink (get_or xs n 0) ≡ false) → inked xs ≡ take n xs
+inked_is [] zero h i s = refl
+inked_is [] (suc n) h i s = absurd (omega arith)
+inked_is (x ∷ xs) zero h i s = simp (s (omega arith))
+inked_is (x ∷ xs) (suc n) h i s = simp (i 0 (omega arith)) (ap (λ l. x ∷ l) (inked_is xs n (omega arith) (λ k l. i (suc k) (omega arith)) (λ l. s (omega arith))))
 
-past_space : (c b : ℕ) (t : Bool) (bs : List ℕ) (n : ℕ) → eqb b 32 ≡ t → lexed (c + 1) 0 bs ≡ lexed (c + 1 + n) 0 (drop n bs) → lexed c 0 (b ∷ bs) ≡ lexed (c + cond t (1 + n) 0) 0 (drop (cond t (1 + n) 0) (b ∷ bs))
-past_space c b true bs n e h =
-    let one : 1 + n ≡ suc n = omega arith in
-    let same : c + 1 + n ≡ c + (1 + n) = omega arith in
-    lexed_space c b bs (eqb-true b 32 e) ∙ h ∙ ap (λ j. lexed j 0 (drop n bs)) same ∙ ap (λ k. lexed (c + (1 + n)) 0 (drop k (b ∷ bs))) (sym one)
-past_space c b false bs n e h = ap (λ j. lexed j 0 (b ∷ bs)) (sym (add-zero c))
+-- What is left from a place on.
 
-pub past_spaces : (c : ℕ) (bs : List ℕ) → lexed c 0 bs ≡ lexed (c + prefix_len (λ b. eqb b 32) bs) 0 (drop (prefix_len (λ b. eqb b 32) bs) bs)
-past_spaces c [] = refl
-past_spaces c (b ∷ bs) = past_space c b (eqb b 32) bs (prefix_len (λ x. eqb x 32) bs) refl (past_spaces (c + 1) bs)
+at_cons : (line : List ℕ) (at : ℕ) → at < length line → drop at line ≡ get_or line at 0 ∷ drop (at + 1) line
+at_cons line at h = rw (add-one, drop-cons line at 0)
 
-pub inked_is : (bs : List ℕ) → inked bs ≡ take (prefix_len ink bs) bs
-inked_is [] = refl
-inked_is (b ∷ bs) = ap (λ l. cond (ink b) (b ∷ l) []) (inked_is bs) ∙ sym (take_while-cons ink b bs)
+module _ (line : List ℕ) (at : ℕ) (within : at < length line) where
+  pub from_space : get_or line at 0 ≡ 32 → left_from line at ≡ left_from line (at + 1)
+  unfolding left_from
+  from_space e = ap (lexed (at + 1) 0) (at_cons line at within) ∙ lexed_space (at + 1) (get_or line at 0) (drop (at + 1) line) e
+
+  pub from_open : get_or line at 0 ≡ 40 → left_from line at ≡ opens ∷ left_from line (at + 1)
+  unfolding left_from
+  from_open e = ap (lexed (at + 1) 0) (at_cons line at within) ∙ lexed_open (at + 1) (get_or line at 0) (drop (at + 1) line) e
+
+  pub from_close : get_or line at 0 ≡ 41 → left_from line at ≡ closes ∷ left_from line (at + 1)
+  unfolding left_from
+  from_close e = ap (lexed (at + 1) 0) (at_cons line at within) ∙ lexed_close (at + 1) (get_or line at 0) (drop (at + 1) line) e
+
+  pub from_other : (get_or line at 0 ≡ 32 → ⊥) → (get_or line at 0 ≡ 40 → ⊥) → (get_or line at 0 ≡ 41 → ⊥) → ink (get_or line at 0) ≡ false → left_from line at ≡ []
+  unfolding left_from
+  from_other s o k h = ap (lexed (at + 1) 0) (at_cons line at within) ∙ lexed_other (at + 1) (get_or line at 0) (drop (at + 1) line) s o k h
+
+pub from_end : (line : List ℕ) (at : ℕ) → length line ≤ at → left_from line at ≡ []
+unfolding left_from
+from_end line at h = ap (lexed (at + 1) 0) (drop_all at line h)
+
+pub from_atom : (line : List ℕ) (start end : ℕ) → start < end → end ≤ length line → ((k : ℕ) → start ≤ k → k < end → ink (get_or line k 0) ≡ true) → (end < length line → ink (get_or line end 0) ≡ false) → left_from line start ≡ atom_of (start + 1) (take (end - start) (drop start line)) ∷ left_from line end
+unfolding left_from
+from_atom line start end low high inside stops =
+    let rest = drop start line in
+    let n = end - start in
+    let c = start + 1 in
+    let long : length rest ≡ length line - start = length-drop start line in
+    let back : start + n ≡ end = omega arith in
+    let column : c + n ≡ end + 1 = omega arith in
+    let first : ink (get_or rest 0 0) ≡ true = ap ink (get_or-drop start line 0 0) ∙ inside (start + 0) (omega arith) (omega arith) in
+    let front : inked rest ≡ take n rest = inked_is rest n (omega arith)
+    (λ k l. ap ink (get_or-drop start line k 0) ∙ inside (start + k) (omega arith) (omega arith))
+    (λ l. ap ink (get_or-drop start line n 0) ∙ ap (λ j. ink (get_or line j 0)) back ∙ stops (omega arith)) in
+    let size : length (take n rest) ≡ n = simp length-take (omega arith) in
+    lexed_ink c rest (omega arith) first
+    ∙ ap (λ u. atom_of c u ∷ lexed (c + length u) 0 (drop (length u) rest)) front
+    ∙ ap (λ k. atom_of c (take n rest) ∷ lexed (c + k) 0 (drop k rest)) size
+    ∙ ap (λ k. atom_of c (take n rest) ∷ lexed k 0 (drop n rest)) column
+    ∙ ap (λ xs. atom_of c (take n rest) ∷ lexed (end + 1) 0 xs) (drop-drop n start line ∙ ap (λ k. drop k line) back)
 
 -- the bytes of a word or a number are text
-pub ink_text : (bs : List ℕ) → IsUtf8 (take (prefix_len ink bs) bs)
-ink_text bs =
-    let n = prefix_len ink bs in
-    IsUtf8-from_ascii (take n bs) (IsAscii-from_reads (take n bs) n (omega (arith, length-prefix_len ink bs))
-    (λ k l. ink_below (get_or (take n bs) k 0) (ap ink (get_or-take n bs k 0 l) ∙ prefix_len_passes ink bs k 0 l)))
-
-pub lexed_end : (c : ℕ) (xs : List ℕ) → length xs ≡ 0 → lexed c 0 xs ≡ []
-lexed_end c [] h = refl
-lexed_end c (x ∷ xs) h = absurd (omega arith)
-
--- from the n-th byte on
-pub after : (k c n : ℕ) (xs ys : List ℕ) → k ≡ c + n → ys ≡ drop n xs → lexed (c + n) 0 (drop n xs) ≡ lexed k 0 ys
-after k c n xs ys e f = ap (λ j. lexed j 0 (drop n xs)) (sym e) ∙ ap (lexed k 0) (sym f)
-
--- past the spaces
-pub spaced : (c k : ℕ) (bs xs : List ℕ) (n : ℕ) → n ≡ prefix_len (λ b. eqb b 32) bs → k ≡ c + n → xs ≡ drop n bs → lexed c 0 bs ≡ lexed k 0 xs
-spaced c k bs xs n e f g = past_spaces c bs ∙ ap (λ m. lexed (c + m) 0 (drop m bs)) (sym e) ∙ after k c n bs xs f g
-
-pub past_stops : (bs xs : List ℕ) (n : ℕ) → n ≡ prefix_len (λ b. eqb b 32) bs → xs ≡ drop n bs → 0 < length xs → get_or xs 0 0 ≡ 32 → ⊥
-past_stops bs xs n e g h is =
-    let low : n < length bs = omega (arith, ap length g, length-drop n bs) in
-    let here : get_or bs (n + 0) 0 ≡ 32 = sym (get_or-drop n bs 0 0) ∙ ap (λ l. get_or l 0 0) (sym g) ∙ is in
-    let stop : eqb (get_or bs n 0) 32 ≡ false = ap (λ k. eqb (get_or bs k 0) 32) e ∙ prefix_len_stops (λ b. eqb b 32) bs 0 (omega arith) in
-    true≢false (sym (ap (λ b. eqb b 32) (ap (λ k. get_or bs k 0) (sym (add-zero n)) ∙ here)) ∙ stop)
-
-pub first_open : (c : ℕ) (xs : List ℕ) → 0 < length xs → get_or xs 0 0 ≡ 40 → lexed c 0 xs ≡ opens ∷ lexed (c + 1) 0 (drop 1 xs)
-first_open c [] h e = absurd (omega arith)
-first_open c (x ∷ xs) h e = lexed_open c x xs e
-
-pub first_close : (c : ℕ) (xs : List ℕ) → 0 < length xs → get_or xs 0 0 ≡ 41 → lexed c 0 xs ≡ closes ∷ lexed (c + 1) 0 (drop 1 xs)
-first_close c [] h e = absurd (omega arith)
-first_close c (x ∷ xs) h e = lexed_close c x xs e
-
-pub first_other : (c : ℕ) (xs : List ℕ) → 0 < length xs → (get_or xs 0 0 ≡ 32 → ⊥) → (get_or xs 0 0 ≡ 40 → ⊥) → (get_or xs 0 0 ≡ 41 → ⊥) → prefix_len ink xs ≡ 0 → lexed c 0 xs ≡ []
-first_other c [] h s o k z = absurd (omega arith)
-first_other c (x ∷ xs) h s o k z = lexed_other c x xs s o k (ap (λ j. ink (get_or (x ∷ xs) j 0)) (sym z) ∙ prefix_len_stops ink (x ∷ xs) 0 (omega arith))
-
-pub first_atom : (c n : ℕ) (xs : List ℕ) → n ≡ prefix_len ink xs → 0 < n → lexed c 0 xs ≡ atom_of c (take n xs) ∷ lexed (c + n) 0 (drop n xs)
-first_atom c n xs e h =
-    let size : length (take n xs) ≡ n = ap (λ k. length (take k xs)) e ∙ length-prefix_len ink xs ∙ sym e in
-    let is : inked xs ≡ take n xs = inked_is xs ∙ ap (λ k. take k xs) (sym e) in
-    lexed_ink c xs (omega (arith, prefix_len-le-length ink xs)) (prefix_len_passes ink xs 0 0 (omega arith))
-    ∙ ap (λ u. atom_of c u ∷ lexed (c + length u) 0 (drop (length u) xs)) is
-    ∙ ap (λ k. atom_of c (take n xs) ∷ lexed (c + k) 0 (drop k xs)) size
-
--- what an atom tells of the token read
-pub tells_atom : (r : Option Token) (old new : List Lexeme) (text : List ℕ) (c : ℕ) → MatchOption r (text ≡ []) (λ t. 0 < length text × (lexeme t ≡ atom_of c text)) → (length text ≡ 0 → old ≡ []) → (0 < length text → old ≡ atom_of c text ∷ new) → MatchOption r (old ≡ []) (λ t. old ≡ lexeme t ∷ new)
-tells_atom None old new text c h none some = none (ap length h)
-tells_atom (Some t) old new text c h none some = some h.0 ∙ ap (λ l. l ∷ new) (sym h.1)
+pub ink_text : (line : List ℕ) (start end : ℕ) → start ≤ end → end ≤ length line → ((k : ℕ) → start ≤ k → k < end → ink (get_or line k 0) ≡ true) → IsUtf8 (take (end - start) (drop start line))
+ink_text line start end low high inside =
+    let n = end - start in
+    let long : length (drop start line) ≡ length line - start = length-drop start line in
+    let size : length (take n (drop start line)) ≡ n = simp length-take (omega arith) in
+    IsUtf8-from_ascii (take n (drop start line)) (IsAscii-from_reads (take n (drop start line)) n (omega arith)
+    (λ k l. ink_below (get_or (take n (drop start line)) k 0) (ap ink (get_or-take n (drop start line) k 0 l ∙ get_or-drop start line k 0) ∙ inside (start + k) (omega arith) (omega arith))))
 
 -- Numbers.
 
@@ -258,12 +248,13 @@ lexed_items c (i ∷ items) h =
     lexed_item (c + 1) i (spaced_items items) h.0 (stops_items items)
     ∙ ap (λ l. item_lexemes (c + 1) i ++ l) (lexed_items k items h.1)
 
--- the tokens of a form, read from the line without its brackets
-pub form_left : (line head : List ℕ) (items : List Item) → Spells line head items → lexed 2 0 (take (length line - 1 - 1) (drop 1 line)) ≡ form_lexemes head items
+-- the tokens of a form, read from the line without its last byte
+pub form_left : (line head : List ℕ) (items : List Item) → Spells line head items → left_from (take (length line - 1) line) 1 ≡ form_lexemes head items
+unfolding left_from
 form_left line head items s =
-    let inner = head ++ spaced_items items in
-    let split : line ≡ 40 ∷ (inner ++ 41 ∷ []) = s.whole ∙ ap (λ xs. 40 ∷ xs) (sym (append_assoc head (spaced_items items) (41 ∷ []))) in
-    let size : length inner ≡ length line - 1 - 1 = omega (arith, ap length split, length-append inner (41 ∷ [])) in
-    ap (lexed 2 0) (ap (λ l. take (length line - 1 - 1) (drop 1 l)) split ∙ take_at inner (41 ∷ []) (length line - 1 - 1) size)
+    let front = 40 ∷ (head ++ spaced_items items) in
+    let split : line ≡ front ++ 41 ∷ [] = s.whole ∙ ap (λ xs. 40 ∷ xs) (sym (append_assoc head (spaced_items items) (41 ∷ []))) in
+    let size : length front ≡ length line - 1 = omega (arith, ap length split, length-append front (41 ∷ [])) in
+    ap (λ xs. lexed 2 0 (drop 1 xs)) (ap (take (length line - 1)) split ∙ take_at front (41 ∷ []) (length line - 1) size)
     ∙ lexed_at_atom 2 (word head) (spaced_items items) s.name (stops_items items)
     ∙ ap (λ l. named 2 head ∷ l) (lexed_items (2 + length head) items s.parts)

@@ -1,13 +1,13 @@
 -- What a cursor has left to read, and what opening one answers.
 use Rattle.std.specs.Prelude.{◌≡◌, ℕ, List, Result, MatchResult}
 use Rattle.lines.specs.Faults.{Read, Refuses}
-use Rattle.lines.specs.Lexing.{lexed}
+use Rattle.lines.specs.Lexing.{left_from}
 use Rattle.lines.specs.Tokens.{Lexeme}
 use Rattle.lines.specs.declared.cursor.Cursor.{Cursor}
 use Rattle.lines.specs.declared.fault.LineFault.{LineFault}
 
 unfoldable pub left : Cursor → List Lexeme
-left c = lexed c.column 0 c.rest.now
+left c = left_from c.line.now c.at
 
 -- a cursor at the line's first token, or why the line is refused
 abbrev pub Opens : List ℕ → Result Cursor LineFault → Type 0

@@ -31,3 +31,7 @@ abbrev pub lexed : ℕ → ℕ → List ℕ → List Lexeme
 lexed c k [] = []
 lexed c (suc k) (b ∷ bs) = lexed (c + 1) k bs
 lexed c zero (b ∷ bs) = cond (b == 32) (lexed (c + 1) 0 bs) (cond (b == 40) (opens ∷ lexed (c + 1) 0 bs) (cond (b == 41) (closes ∷ lexed (c + 1) 0 bs) (cond (ink b) (atom_of c (b ∷ inked bs) ∷ lexed (c + 1) (length (inked bs)) bs) [])))
+
+-- from the place `at` on
+unfoldable pub left_from : List ℕ → ℕ → List Lexeme
+left_from line at = lexed (at + 1) 0 (drop at line)

@@ -1,9 +1,9 @@
-use Rattle.std.proofs.Common.{◌≤◌, ◌-◌, length, take, drop, subst, arith}
+use Rattle.std.proofs.Common.{◌≤◌, ◌-◌, length, take, subst, arith}
 use Rattle.std.proofs.lemmas.Grind.{common_steps}
 use Rattle.lines.specs.Cursors.{left, Opens}
 use Rattle.lines.specs.Faults.{Read}
 use Rattle.lines.specs.Forms.{Form}
-use Rattle.lines.specs.Lexing.{lexed}
+use Rattle.lines.specs.Lexing.{left_from}
 use Rattle.lines.proofs.Lexes.{form_left}
 use Rattle.lines.proofs.Unique.{one_reading, refused_only, refused_cut, kept_long, kept_whole}
 use Rattle.lines.proofs.cursor.Cursor.open.Goals as goal
@@ -21,7 +21,7 @@ returns-in_err-map_err-clause-cut c =
     let told : Opens c.args.line.now c.from_residual.result = grind (arith, common_steps) in
     refused_cut c.args.line.now c.from_residual.result c.from_residual.ensures.0 told (omega arith)
 
-read : (c : goal.After-result-2-1) → Read c.args.line.now (lexed 2 0 (take (length c.args.line.now - 1 - 1) (drop 1 c.args.line.now)))
+read : (c : goal.In_ok-map_err) → Read c.args.line.now (left_from (take (length c.args.line.now - 1) c.args.line.now) 1)
 read c =
     let line = c.args.line.now in
     let form : Form line = grind (arith, common_steps) in
@@ -36,4 +36,4 @@ unfolding left
 returns-clause-cut c =
     let line = c.args.line.now in
     let short : length line ≤ 512 = omega arith in
-    λ whole e. subst (λ l. Read l (lexed 2 0 (take (length line - 1 - 1) (drop 1 line)))) (kept_whole line whole e short) (read c)
+    λ whole e. subst (λ l. Read l (left_from (take (length line - 1) line) 1)) (kept_whole line whole e short) (read c)

@@ -2,7 +2,7 @@ use Rattle.std.proofs.Common.{◌≡◌, subst, ◌<◌, ◌^◌, sym, ◌∙◌
 use Rattle.std.specs.List.{fold}
 use Rattle.lines.specs.Lexing.{with_digit, magnitude}
 use Rattle.lines.proofs.Lexes.{magnitude_fold, magnitude_small}
-use Rattle.lines.proofs.cursor.atom.digits_value.Goals as goal
+use Rattle.lines.proofs.cursor.digits_value.Goals as goal
 
 value : (c : goal.After-fold) → c.fold.result ≡ magnitude 0 c.args.digits.now
 value c = let e : c.fold.result ≡ fold with_digit 0 c.args.digits.now = search rules in e ∙ magnitude_fold 0 c.args.digits.now
