@@ -52,6 +52,7 @@ const MOST: Buffer = Buffer {
 };
 
 impl BufferTerms {
+    // At most so much of each.
     fn checked(self, most: Buffer) -> Result<Buffer, OrderFault>
         ensures { result ≡ check (buffer_in_range most.minimum most.absolute most.percentage self) (Range 0) (Ok (buffer_of self)) }
     {
@@ -78,7 +79,7 @@ impl TryFrom<NoticeTerms> for Buffers {
 }
 
 impl LegTerms {
-    // The leg at a place, its series by number.
+    // The leg at a place, which a refusal names; its series by number.
     pub(crate) fn checked(self, place: u8) -> Result<TradedLeg, OrderFault>
         ensures { result ≡ check (leg_in_range self) (Range place) (Ok (traded_leg self)) }
     {

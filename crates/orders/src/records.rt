@@ -66,7 +66,7 @@ pub struct OrderTerms {
     pub legs: LegList,
 }
 
-// The legs and one more.
+// The legs and one more. The borrow checker takes no array pattern in a variant.
 fn one_more(legs: &Legs<LegTerms>, leg: LegTerms) -> LegList
     ensures { result ≡ abridged (listed legs.now ++ leg ∷ []) }
 {
