@@ -10,6 +10,7 @@ pub enum BookFault {
     NumbersUsedUp,
 }
 
+// By hand, so that a contract knows the variant.
 impl From<BookFault> for GateFault {
     ghost from_gives = { λ e r. r ≡ gate_fault e };
 

@@ -12,7 +12,7 @@ pub struct TapeLine {
     pub side: Side,
     pub units: u16,
     pub net: i32,
-    // the number of the notice in force
+    // the number of the notice in force, 0 for the zeros before the first
     pub notice: usize,
     pub legs: Legs<LegFill>,
 }

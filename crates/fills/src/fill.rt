@@ -1,7 +1,7 @@
 // A fill of an order, in turned terms.
 use strategy::legs::Legs;
 
-// The ratio has a minus if the leg is sold.
+// The ratio has a minus if the leg is sold, as the tape says it.
 #[derive(Clone, Copy)]
 pub struct LegFill {
     pub series: u8,

@@ -43,7 +43,7 @@ impl<M: Market> NetSide<'_, M> {
     {
         let series = usize::from(leg.series);
         let best = self.market.best(series, leg.used_side(self.side));
-        best.unwrap_or(Level { price: 0, size: 0 })
+        best.unwrap_or_default()
     }
 
     // The first leg, from 1, whose level lacks its ratio.
@@ -58,6 +58,7 @@ impl<M: Market> NetSide<'_, M> {
         requires { All (λ g. 1 ≤ g.ratio) legs.now }
         ensures { result ≡ allowed (M.levels self.now.market.now) self.now.side units legs.now }
     {
+        // the least of two, one of them a u16
         legs.iter().fold(units, |least, leg| {
             let most = self.level(leg).size / u32::from(leg.ratio);
             most.min(u32::from(least)) as u16
@@ -69,6 +70,7 @@ impl<M: Market> NetSide<'_, M> {
         requires { leg.now.ratio ≤ 12 }
         ensures { result ≡ leg_fill (M.levels self.now.market.now) self.now.side leg.now }
     {
+        // at most 12
         let ratio = leg.ratio as i8;
         LegFill {
             series: leg.series,
@@ -98,7 +100,7 @@ fn is_past_limit(side: Side, net: i32, limit: Option<i32>) -> bool
     })
 }
 
-// What an order of which some units remain would get.
+// What an order of which some units remain would get. Each argument is of another owner, and two calls make no struct of them.
 pub fn quotation<M: Market>(
     market: &M,
     order: &TurnedOrder,

@@ -11,6 +11,12 @@ mod entry;
 mod setup;
 mod trading;
 
+// The most tape lines that are kept.
+pub const MOST_LINES: usize = 4096;
+
+// The most notices.
+pub const MOST_NOTICES: usize = 64;
+
 // At most 4,096 tape lines and 64 notices are kept, fewer where the memory is shorter.
 // It has no Model: its state gives the order of a number by a function, and a function cannot be a view's value.
 #[derive(Drop)]

@@ -31,7 +31,8 @@ impl<R: Read> LineSource<R> {
     }
 
     // The line that was taken or read last, without its line break; of a line over 513 bytes, the
-    // first 513. It is asked for by itself: a loop that hands out a line may not read on.
+    // first 513. It is asked for by itself, behind the three below: no contract can say what a source becomes that lends its line
+    // inside an `Option`, and a loop that hands out a line may not read on.
     pub fn line(&self) -> &[u8]
         ensures { result.now ≡ line self.now.held }
     {

@@ -19,7 +19,7 @@ pub enum Token<'a> {
     Close,
 }
 
-// A place in a form.
+// A place in a form. (What is left as a slice costs the gate as much as above.)
 #[derive(Clone, Copy)]
 pub struct Cursor<'a> {
     // the line without its last byte, the form's closing bracket
@@ -39,7 +39,7 @@ fn skip_spaces(line: &[u8], at: usize) -> usize
     at
 }
 
-// Where the word or number that begins at `start` ends. (A loop for the same reason.)
+// Where the word or number that begins at `start` ends. (A loop, as `skip_spaces`.)
 fn atom_end(line: &[u8], start: usize) -> usize
     requires { start ≤ length line.now }
     ensures low { start ≤ result }

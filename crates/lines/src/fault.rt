@@ -33,7 +33,7 @@ impl LineFault {
         "line"
     }
 
-    // A column of the line, or 0 where no line is at fault.
+    // A column of the line, or 0 where no line is at fault, as a refusal says it.
     pub fn place(self) -> usize
         ensures { result ≡ place self }
     {

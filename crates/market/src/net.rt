@@ -26,8 +26,7 @@ fn net_side<M: Market>(market: &M, legs: &[TradedLeg], side: QuoteSide) -> Optio
     requires { length legs.now ≤ 4 }
     ensures { result ≡ net_side (M.levels market.now) legs.now side }
 {
-    // A loop, since no `sum` of an iterator says that a missing price ends it.
-    // a loop: an iterator's sum has no bound that a contract could give
+    // A loop: an iterator's sum has no bound that a contract could give, and says nothing of a missing price.
     let mut sum: i32 = 0;
     for leg in legs {
         let level = market.best(usize::from(leg.series), leg.used_side(side))?;

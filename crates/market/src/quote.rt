@@ -77,6 +77,7 @@ pub enum MarketFault {
 }
 
 impl MarketFault {
+    // The number in a refusal, which is one of the gate's stated forms.
     pub fn number(self) -> u8
         ensures { result ≡ fault_number self }
     {

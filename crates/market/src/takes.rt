@@ -63,7 +63,6 @@ pub fn take_legs<M: Market>(
         return Err(MarketFault::Take);
     }
     // A loop, since a closure that changes the market would say nothing of it.
-    // a loop: a closure may not change the market that it captures
     for leg in legs {
         market.take(
             usize::from(leg.series),

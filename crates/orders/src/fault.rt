@@ -99,6 +99,7 @@ impl OrderFault {
 }
 
 impl GateFault {
+    // The number in a refusal, which is one of the gate's stated forms.
     pub fn number(self) -> u8
         ensures { result ≡ number_of self }
     {

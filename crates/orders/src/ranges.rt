@@ -52,7 +52,7 @@ const MOST: Buffer = Buffer {
 };
 
 impl BufferTerms {
-    // At most so much of each.
+    // At most so much of each. No `TryFrom`: it takes a bound beside the record, as a leg takes its place.
     fn checked(self, most: Buffer) -> Result<Buffer, OrderFault>
         ensures { result ≡ check (buffer_in_range most.minimum most.absolute most.percentage self) (Range 0) (Ok (buffer_of self)) }
     {

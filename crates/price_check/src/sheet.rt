@@ -3,7 +3,7 @@ use strategy::leg::{Kind, Leg, Series, Side};
 use strategy::legs::Legs;
 use strategy::price::{Buffer, Buffers};
 
-// A price to judge: a limit, or what the market would give.
+// A price to judge: a limit, or what the market would give. No Option: the sheet is read, and `None` would not say so.
 #[derive(Clone, Copy)]
 pub enum Price {
     Limit(i32),
@@ -47,6 +47,7 @@ pub fn option(kind: Kind, strike: u32) -> Series {
     }
 }
 
+// This and `sell` are the words of the sheet and of the tests; another crate's leg has no maker of its own to call.
 pub fn buy(ratio: u8, series: Series) -> Leg {
     Leg {
         side: Side::Buy,
@@ -75,19 +76,13 @@ fn quoted(series: u8, leg: Leg, bid: i32, offer: i32) -> QuotedLeg {
 
 // Buffers for verticals, and none for the other classes.
 fn for_verticals(minimum: u16, absolute: u16, percentage: u16) -> Buffers {
-    let none = Buffer {
-        minimum: 0,
-        absolute: 0,
-        percentage: 0,
-    };
     Buffers {
         vertical: Buffer {
             minimum,
             absolute,
             percentage,
         },
-        butterfly: none,
-        boxes: none,
+        ..Buffers::default()
     }
 }
 

@@ -38,6 +38,7 @@ pub fn serve<T: Answerer, R: Read + Drop, W: Write>(
     ensures { OnOk result (Served T.becomes answerer.old answerer.new) }
 {
     let mut source = LineSource::new(input);
+    // an input need not end, but every loop must
     for _ in 0..u64::MAX {
         if !next_line(&mut source, out)? {
             return Ok(());

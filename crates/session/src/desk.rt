@@ -7,7 +7,7 @@ use crate::session::Session;
 use crate::venue::Venue;
 use days::tape::TapeLine;
 use fills::fill::LegFill;
-use gate_calls::gate::Gate;
+use gate_calls::gate::{Gate, MOST_LINES, MOST_NOTICES};
 use line_writer::line::CAPACITY;
 use service::answerer::{Answerer, serve};
 use std::alloc::Global;
@@ -17,10 +17,6 @@ use strategy::class::Class;
 use strategy::leg::Side;
 use strategy::legs::Legs;
 use strategy::price::Buffers;
-
-const TAPE_LINES: usize = 4096;
-
-const NOTICES: usize = 64;
 
 // What stands in the tape's memory before its first line: no class, side or legs are blank by themselves.
 const NO_LINE: TapeLine = TapeLine {
@@ -67,8 +63,8 @@ pub fn run<V: Venue + Drop, R: Read + Drop, W: Write>(
 ) -> io::Result<()>
     ensures { OnOk result (Ran (V.Market.levels venue)) }
 {
-    let mut tape = vec![in heap; NO_LINE; TAPE_LINES]?;
-    let mut notices = vec![in heap; Buffers::default(); NOTICES]?;
+    let mut tape = vec![in heap; NO_LINE; MOST_LINES]?;
+    let mut notices = vec![in heap; Buffers::default(); MOST_NOTICES]?;
     let gate = Gate::new(tape.as_mut_slice(), notices.as_mut_slice());
     let mut desk = Desk {
         session: Session::new(gate, venue),

@@ -15,6 +15,7 @@ pub enum SessionFault {
     Gate(GateFault),
 }
 
+// This and the next two by hand, so that a contract knows the variant.
 impl From<LineFault> for SessionFault {
     ghost from_gives = { λ e r. r ≡ session.Line e };
 

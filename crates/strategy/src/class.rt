@@ -103,6 +103,7 @@ fn vertical_width(a: Leg, b: Leg) -> Option<u32>
     let low = a.series.strike.min(b.series.strike);
     let high = a.series.strike.max(b.series.strike);
     let form = vertical(a.series, low, high);
+    // an `if`, here and below: the condition is long, and the width only then one
     if low < high && are_reordered(&[a, b], &form) {
         Some(high - low)
     } else {
@@ -152,6 +153,7 @@ fn box_width(a: Leg, b: Leg, c: Leg, d: Leg) -> Option<u32>
     }
 }
 
+// Two legs, three and four: each number has forms of its own.
 fn two_legs(a: Leg, b: Leg) -> Option<Form>
     requires { IsBought 0 (a ∷ b ∷ []) → ⊥ }
     ensures { Formed (a ∷ b ∷ []) result }

@@ -33,6 +33,7 @@ pub struct Leg {
 }
 
 impl Side {
+    // Its own match, as QuoteSide has: one trait for both would hold the same two.
     fn opposite(self) -> Side
         ensures { result ≡ opposite self }
     {

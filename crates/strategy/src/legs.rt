@@ -49,7 +49,8 @@ impl<T: Copy> Legs<T> {
         }
     }
 
-    // As many, each by `f`, which takes a leg's place too, from 1; or the first error.
+    // As many, each by `f`, which takes a leg's place too, from 1; or the first error. Its arms stand here too: the
+    // library's own gives no place.
     pub fn try_map<U: Drop, E, F: Fn(u8, T) -> Result<U, E>>(self, f: F) -> Result<Legs<U>, E>
         requires { F.IsAlwaysCallable f }
         ensures { (g : ℕ → T → Result U E) → ((n : ℕ) → Gives (F.post f n) (g n)) → map_ok listed result ≡ try_each g 1 (listed self) }
@@ -76,6 +77,7 @@ impl<T: Copy> Legs<T> {
         ensures { (p : T → Bool) → Gives (FnReturnsAt F.Fn test) p → result ≡ position_from p 1 (listed self.now) }
     {
         let place = self.as_slice().iter().position(test)?;
+        // one of at most four
         Some(place as u8 + 1)
     }
 }

@@ -36,6 +36,7 @@ pub enum Refusal {
 }
 
 impl Refusal {
+    // The number in a refusal, which is one of the gate's stated forms.
     pub fn number(self) -> u8
         ensures { result ≡ refusal_number self }
     {
@@ -53,6 +54,7 @@ impl Buffer {
         ensures { result ≡ maximum_buffer self width }
     {
         let share = u64::from(width) * u64::from(self.percentage) / 10000;
+        // at most `absolute`
         share.min(u64::from(self.absolute)) as u32
     }
 
@@ -211,7 +213,8 @@ pub struct Execution {
     pub prevented: bool,
 }
 
-// The check of an execution at a net price as entered: the net offer of a buy, the net bid of a sell.
+// The check of an execution at a net price as entered: the net offer of a buy, the net bid of a sell. Beside `check_limit`: three lines are
+// alike, and what is asked and answered is not.
 pub fn check_execution(legs: &Legs<Leg>, side: Side, net: i32, buffers: Buffers) -> Execution
     ensures { Executed (listed legs.now) side net buffers result }
 {

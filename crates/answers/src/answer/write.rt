@@ -24,6 +24,7 @@ fn form(head: &str, fields: &[Field]) -> Line
 }
 
 #[tactic(auto, using(crate::proofs::Lengths::short_count))]
+// This and `cents` are no `From`, which would stand with `Field` and could not promise a short text.
 fn count(n: u64) -> Field<'static>
     ensures is { atom result ≡ number (pos n) }
     ensures short { Short (atom result) }
@@ -61,6 +62,7 @@ impl From<LineFault> for Answer {
         Answer::Refused {
             number: u32::from(fault.number()),
             layer: Layer::Line,
+            // std has no `From` of a usize
             place: fault.place() as u64,
         }
     }

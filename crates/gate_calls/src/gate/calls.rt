@@ -1,6 +1,6 @@
 // The calls of the gate. Each refuses with the lowest number that applies, at the first leg that it meets, and then changes nothing.
 // Each promises its answer and the gate that it leaves, and the law of the day: whatever calls led here, this one leads on, and the
-// day keeps its laws.
+// day keeps its laws. The part that decides is private and promises the call without the law, so that it can be proved by itself.
 ghost use Rattle.std.specs.Prelude.{◌≡◌, length};
 ghost use Rattle.orders.specs.Checks.{map_ok};
 ghost use Rattle.market.specs.Levels.{Levels};

@@ -6,7 +6,7 @@ ghost use Rattle.days.specs.Cancels.{cancelling, cancelled_in, ringing, rung_in}
 ghost use Rattle.gate_calls.specs.Model.{state};
 ghost use Rattle.gate_calls.specs.Promises.{Changes};
 
-use super::Gate;
+use super::{Gate, MOST_NOTICES};
 use orders::bell::Bell;
 use orders::fault::GateFault;
 use orders::phase::Phase;
@@ -14,13 +14,11 @@ use orders::records::{NoticeTerms, SeriesTerms};
 use strategy::leg::Series;
 use strategy::price::Buffers;
 
-const MOST_NOTICES: usize = 64;
-
 impl Gate<'_> {
     pub(super) fn is_closed(&self) -> bool
         ensures { result ≡ is_closed (state self.now).phase }
     {
-        matches!(self.phase, Phase::Closed)
+        self.phase == Phase::Closed
     }
 
     // The buffers of the last notice; notice 0 is all zeros.
@@ -56,6 +54,7 @@ impl Gate<'_> {
         self.notices
             .push(buffers)
             .map_err(|_| GateFault::NoticesFull)?;
+        // one of at most 64
         Ok(posted as u8 + 1)
     }
 

@@ -10,7 +10,7 @@ ghost use Rattle.days.specs.History.{since, WorkStep, SweepStep};
 ghost use Rattle.gate_calls.specs.Model.{state};
 ghost use Rattle.gate_calls.specs.Promises.{quoted_for, line_with, FirstMatch, Settles, Sweeping};
 
-use super::Gate;
+use super::{Gate, MOST_LINES};
 use book::order::RestingOrder;
 use days::reply::{Execution, Tally};
 use days::tape::TapeLine;
@@ -21,8 +21,6 @@ use market::trading::Market;
 use orders::fault::GateFault;
 use orders::outcome::Outcome;
 use orders::phase::Phase;
-
-const MOST_LINES: usize = 4096;
 
 // A resting order and the fill that it would get.
 #[derive(Clone, Copy)]
@@ -50,7 +48,7 @@ impl Gate<'_> {
     pub(super) fn is_open(&self) -> bool
         ensures { result ≡ is_open (state self.now).phase }
     {
-        matches!(self.phase, Phase::Open)
+        self.phase == Phase::Open
     }
 
     pub(super) fn is_tape_full(&self) -> bool

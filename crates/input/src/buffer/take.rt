@@ -38,7 +38,8 @@ impl LineBuffer {
         &self.bytes[self.ahead.start..self.ahead.end]
     }
 
-    // Takes the next line, where all of it is here.
+    // Takes the next line, where all of it is here. A `bool`, and the line by `line`: no contract can say what a source becomes that
+    // lends its line inside an `Option`.
     pub(crate) fn take_line(&mut self) -> bool
         ensures { Takes self.old self.new result }
     {
@@ -51,7 +52,7 @@ impl LineBuffer {
         true
     }
 
-    // At the end of the input: takes what is left as the last line, where anything is.
+    // At the end of the input: takes what is left as the last line, where anything is. The line by `line`, as there.
     pub(crate) fn take_rest(&mut self) -> bool
         ensures some { result ≡ nat_lt 0 (length (waiting self.old)) }
         ensures line { line self.new ≡ take 513 (waiting self.old) }

@@ -41,6 +41,7 @@ impl SeriesTable {
         if self.series.contains(&series) {
             return Err(GateFault::AlreadyListed);
         }
+        // under 256
         let number = self.series.len() as u16;
         self.series.push(series);
         Ok(number)

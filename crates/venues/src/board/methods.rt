@@ -51,7 +51,6 @@ impl Market for Board {
     }
 
     fn take(&mut self, series: usize, side: QuoteSide, n: u32) -> Result<(), MarketFault> {
-        // no `get_mut`: nothing would be known of the array after its refusal
         if series >= SERIES {
             return Err(MarketFault::Take);
         }

@@ -35,7 +35,7 @@ impl SeriesDepth {
         self.side(side).first()
     }
 
-    // Takes n contracts from the first level of a side. Each side is changed in its place: one that is handed out could meet the other.
+    // Takes n contracts from the first level of a side.
     pub(crate) fn take(&mut self, side: QuoteSide, n: u32) -> Result<(), MarketFault>
         ensures answer { result ≡ take_answer (series_levels self.old side) n }
         ensures after { series_levels self.new ≡ one_side (series_levels self.old) side (taken (series_levels self.old side) n) }
