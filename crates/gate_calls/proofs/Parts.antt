@@ -1,11 +1,11 @@
--- The notice in force, a full tape, and numbers that no order has.
-use Rattle.std.proofs.Common.{◌≡◌, ℕ, suc, ◌-◌, ◌^◌, ◌<◌, min, true, false, leb, List, [], ◌∷◌, length, get_or, ℤ, pos, negsuc, Some, None, Ok, Err, Option, Result, sym, refl, ap, ◌∙◌, subst, ⊎_elim, arith}
+-- The notice in force, and numbers that no order has.
+use Rattle.std.proofs.Common.{◌≡◌, suc, ◌-◌, ◌^◌, ◌<◌, List, [], ◌∷◌, length, get_or, ℤ, pos, negsuc, Some, None, Ok, Err, Option, Result, sym, refl, ap, ◌∙◌, subst, ⊎_elim, arith}
 use Rattle.std.specs.Int.{FitsUnsignedBits}
 use Rattle.std.specs.List.{slice_get}
 use Rattle.std.specs.Option.{UnwrapsOrElse, ok_or}
 use Rattle.std.specs.Result.{OkIff, result_ok}
 use Rattle.std.proofs.lemmas.Option.{slice_get-get_or}
-use Rattle.std.proofs.lemmas.Bool.{cases_lt, le-leb, lt-leb, leb-true, leb-false}
+use Rattle.std.proofs.lemmas.Bool.{cases_lt}
 use Rattle.strategy.specs.declared.price.Buffers.{Buffers}
 use Rattle.orders.proofs.Checked.{err_ok, some_none}
 use Rattle.book.specs.declared.book.Book.{Book}
@@ -27,19 +27,6 @@ pub last_or_zeros : (b : Buffers) (P : Buffers → Type 0) (v : Option Buffers) 
 last_or_zeros b P v [] r h is zeros = zeros (subst (λ w. UnwrapsOrElse w P r) is h)
 last_or_zeros b P v (x ∷ xs) r h is zeros =
     subst (λ w. UnwrapsOrElse w P r) (is ∙ slice_get-get_or (x ∷ xs) (length (x ∷ xs) - 1) b (omega arith)) h ∙ last_at b (x ∷ xs) b (omega arith)
-
--- a tape without room, or with room and many lines or few
-module _ (room lines all : ℕ) (same : all ≡ lines) where
-  pub without_room : leb room lines ≡ true → true ≡ leb (min 4096 room) all
-  without_room full = sym (le-leb (min 4096 room) all (omega (arith, leb-true room lines full, same)))
-
-  pub with_room : leb room lines ≡ false → leb 4096 lines ≡ leb (min 4096 room) all
-  with_room free =
-      let low = leb-false room lines free in
-      ⊎_elim
-      (λ few. lt-leb 4096 lines few ∙ sym (lt-leb (min 4096 room) all (omega arith)))
-      (λ many. le-leb 4096 lines many ∙ sym (le-leb (min 4096 room) all (omega arith)))
-      (cases_lt lines 4096)
 
 -- no value came, so what a value needs does not hold
 pub no_value : {A E : Type 0} (r : Result A E) (P : Type 0) (v : A) → result_ok r ≡ None → OkIff r P v → P → ⊥
