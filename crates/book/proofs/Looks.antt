@@ -53,7 +53,7 @@ look_high low high k (o ∷ os) h lt =
     let b = bounds o.number high os p in
     look_other o os k (λ e. omega arith) ∙ look_high o.number high k os p lt
 
-orderly_weaker : (a b high : ℕ) (os : List RestingOrder) → a ≤ b → orderly b high os ≡ true → orderly a high os ≡ true
+pub orderly_weaker : (a b high : ℕ) (os : List RestingOrder) → a ≤ b → orderly b high os ≡ true → orderly a high os ≡ true
 orderly_weaker a b high [] le h = let l = leb-true b high h in le-leb a high (omega arith)
 orderly_weaker a b high (o ∷ os) le h =
     let f = parts b high o os h in

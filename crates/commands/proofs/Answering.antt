@@ -16,7 +16,7 @@ use Rattle.commands.specs.declared.command.Feed.{Feed}
 use Rattle.commands.proofs.Decoding.{one_command}
 
 module _ (feed : Feed) (line : List ℕ) (found : List Lexeme) (read : Read line found) where
-  understood : (c : Command) → takes feed c ≡ true → Says c (map part found) → Understood feed line c
+  pub understood : (c : Command) → takes feed c ≡ true → Says c (map part found) → Understood feed line c
   understood c t h =
       record {
         short = read.short;
@@ -25,7 +25,7 @@ module _ (feed : Feed) (line : List ℕ) (found : List Lexeme) (read : Read line
         says = λ head items s. subst (Says c) (ap (map part) (read.says head items s)) h;
       }
 
-  strange : ((c : Command) → takes feed c ≡ true → Says c (map part found) → ⊥) → Strange feed line
+  pub strange : ((c : Command) → takes feed c ≡ true → Says c (map part found) → ⊥) → Strange feed line
   strange none =
       record {
         short = read.short;
@@ -33,7 +33,7 @@ module _ (feed : Feed) (line : List ℕ) (found : List Lexeme) (read : Read line
         silent = λ head items s c t h. none c t (subst (Says c) (sym (ap (map part) (read.says head items s))) h);
       }
 
-  untaken : (c : Command) → takes feed c ≡ false → Says c (map part found) → Strange feed line
+  pub untaken : (c : Command) → takes feed c ≡ false → Says c (map part found) → Strange feed line
   untaken c u h = strange (λ d t k. both_ways (takes feed c) u (ap (takes feed) (sym (one_command c d (map part found) h k)) ∙ t))
 
   chosen : (c : Command) → Says c (map part found) → (b : Bool) → takes feed c ≡ b → Answered feed line (ok_or (then_some b c) Unknown)

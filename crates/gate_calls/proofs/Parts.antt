@@ -14,7 +14,7 @@ use Rattle.book.proofs.Looks.{look_high}
 use Rattle.days.specs.State.{last_of, lookup}
 
 -- the last of some notices
-last_at : (b : Buffers) (xs : List Buffers) (d : Buffers) → 0 < length xs → get_or xs (length xs - 1) d ≡ last_of b xs
+pub last_at : (b : Buffers) (xs : List Buffers) (d : Buffers) → 0 < length xs → get_or xs (length xs - 1) d ≡ last_of b xs
 last_at b [] d h = absurd (omega arith)
 last_at b (x ∷ []) d h = refl
 last_at b (x ∷ (y ∷ ys)) d h =

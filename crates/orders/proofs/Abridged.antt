@@ -23,7 +23,7 @@ whole next (a ∷ b ∷ c ∷ d ∷ e ∷ more) = grind (arith, nat_tests)
 pub whole_checked_lem : (all : List LegTerms) → checked_legs (abridged all) ≡ whole_checked all
 whole_checked_lem all = whole legs_checked all
 
-whole_order_lem : (o : OrderTerms) (all : List LegTerms) → o.legs ≡ abridged all → checked_order o ≡ whole_order o all
+pub whole_order_lem : (o : OrderTerms) (all : List LegTerms) → o.legs ≡ abridged all → checked_order o ≡ whole_order o all
 whole_order_lem o all e =
     let next : List LegTerms → Result Entered OrderFault = λ legs. check (limit_in_range o.limit && quantity_in_range o.quantity) (Range 0) (map_ok (order_of o) (legs_checked legs)) in
     ap (λ l. check (is_few l) LegCount (next (legs_of l))) e ∙ whole next all

@@ -52,7 +52,7 @@ impl<T: Copy> Legs<T> {
     // As many, each by `f`, which takes a leg's place too, from 1; or the first error. Its arms stand here too: the
     // library's own gives no place.
     pub fn try_map<U: Drop, E, F: Fn(u8, T) -> Result<U, E>>(self, f: F) -> Result<Legs<U>, E>
-        requires { F.IsAlwaysCallable f }
+        requires { (n : ℕ) → 1 ≤ n → n ≤ 4 → All (F.pre f n) (listed self) }
         ensures { (g : ℕ → T → Result U E) → ((n : ℕ) → Gives (F.post f n) (g n)) → map_ok listed result ≡ try_each g 1 (listed self) }
     {
         match self {
@@ -73,7 +73,7 @@ impl<T: Copy> Legs<T> {
 
     // The place, from 1, of the first leg that passes a test.
     pub fn place_where<F: Fn(&T) -> bool>(&self, test: F) -> Option<u8>
-        requires { F.IsAlwaysCallable test }
+        requires { All (λ leg. (lent : _) → lent.now ≡ leg → F.pre test lent) (listed self.now) }
         ensures { (p : T → Bool) → Gives (FnReturnsAt F.Fn test) p → result ≡ position_from p 1 (listed self.now) }
     {
         let place = self.as_slice().iter().position(test)?;

@@ -13,6 +13,7 @@ use orders::fault::Layer;
 use strategy::word::Word;
 
 // A form with these fields. With up to six of them it is no longer than a line.
+#[inline(always)]
 fn form(head: &str, fields: &[Field]) -> Line
     requires head { length head.now ≤ 9 }
     requires few { length fields.now ≤ 6 }
@@ -32,7 +33,7 @@ fn count(n: u64) -> Field<'static>
     Field::Count(n)
 }
 
-#[tactic(auto, using(crate::proofs::Lengths::short_cents))]
+#[tactic(auto, using(crate::proofs::Lengths::short_number))]
 fn cents(n: i64) -> Field<'static>
     ensures is { atom result ≡ number n }
     ensures short { Short (atom result) }

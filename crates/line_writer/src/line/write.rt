@@ -1,5 +1,5 @@
 // Writing a form onto a line.
-ghost use Rattle.std.specs.Prelude.{◌≡◌, [], ◌∷◌, map};
+ghost use Rattle.std.specs.Prelude.{◌≡◌, [], ◌∷◌, map, decimal};
 ghost use Rattle.lines.specs.Forms.{atom_text};
 ghost use Rattle.line_writer.specs.Lines.{held, Starts, Adds, atom, render};
 
@@ -35,6 +35,17 @@ impl Line {
         self.len = end;
     }
 
+    // Of one digit, as most numbers of an answer are, it needs no buffer.
+    fn count(&mut self, n: u64)
+        ensures { Adds (held self.old) (held self.new) (decimal n) }
+    {
+        if n < 10 {
+            self.byte(b'0' + n as u8);
+        } else {
+            self.text(Buffer::new().format(n).as_bytes());
+        }
+    }
+
     // A space and the field.
     fn field(&mut self, field: Field)
         ensures { Adds (held self.old) (held self.new) (32 ∷ atom_text (atom field.entry)) }
@@ -42,7 +53,7 @@ impl Line {
         self.byte(b' ');
         match field {
             Field::Word(word) => self.text(word.as_bytes()),
-            Field::Count(n) => self.text(Buffer::new().format(n).as_bytes()),
+            Field::Count(n) => self.count(n),
             Field::Number(n) => self.text(Buffer::new().format(n).as_bytes()),
         }
     }

@@ -12,8 +12,8 @@ pub returns-in-Number : goal.returns-in-Number
 returns-in-Number c =
     let n = c.in-Number.n in
     let same : to_z w64 (of_z w64 n) ≡ n = search rules in
-    spaced (c.as_bytes-in-Number.ensures.value ∙ c.format-in-Number.ensures.text ∙ ap signed_decimal same ∙ ap (λ f. atom_text (atom f)) (sym c.in-Number.is)) c.byte.ensures c.text-in-Number.ensures
+    spaced (c.as_bytes-in-Number.ensures.value ∙ c.format.ensures.text ∙ ap signed_decimal same ∙ ap (λ f. atom_text (atom f)) (sym c.in-Number.is)) c.byte.ensures c.text-in-Number.ensures
 
 pub returns-in-Count : goal.returns-in-Count
 returns-in-Count c =
-    spaced (c.as_bytes-in-Count.ensures.value ∙ c.format.ensures.text ∙ ap (λ f. atom_text (atom f)) (sym c.in-Count.is)) c.byte.ensures c.text-in-Count.ensures
+    spaced (ap (λ f. atom_text (atom f)) (sym c.in-Count.is)) c.byte.ensures c.count.ensures
