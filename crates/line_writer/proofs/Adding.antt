@@ -48,3 +48,14 @@ added {c = c} head fields a s p = subst (λ t. Starts c (40 ∷ t)) (flat_map_mo
 
 pub closed : {b c : List ℕ} (head : List ℕ) (fields : List Atom) → Starts b (40 ∷ (head ++ spaced_atoms fields)) → Adds b c (41 ∷ []) → Starts c (render head fields)
 closed {c = c} head fields s p = subst (λ t. Starts c (40 ∷ t)) (append_assoc head (spaced_atoms fields) (41 ∷ [])) (p (40 ∷ (head ++ spaced_atoms fields)) s)
+
+-- The same behind any text.
+
+pub begun : {a b c : List ℕ} (head : List ℕ) → Adds a b (40 ∷ []) → Adds b c head → Adds a c (40 ∷ (head ++ spaced_atoms []))
+begun head p q = same_text (ap (λ t. 40 ∷ t) (sym (append-nil head))) (in_turn (40 ∷ []) head p q)
+
+pub lengthened : {a b c : List ℕ} (head : List ℕ) (fields : List Atom) (x : Atom) → Adds a b (40 ∷ (head ++ spaced_atoms fields)) → Adds b c (32 ∷ atom_text x) → Adds a c (40 ∷ (head ++ spaced_atoms (fields ++ x ∷ [])))
+lengthened head fields x p q = same_text (ap (λ t. 40 ∷ t) (flat_map_more (λ y. 32 ∷ atom_text y) head fields x)) (in_turn (40 ∷ (head ++ spaced_atoms fields)) (32 ∷ atom_text x) p q)
+
+pub ended : {a b c : List ℕ} (head : List ℕ) (fields : List Atom) → Adds a b (40 ∷ (head ++ spaced_atoms fields)) → Adds b c (41 ∷ []) → Adds a c (render head fields)
+ended head fields p q = same_text (ap (λ t. 40 ∷ t) (append_assoc head (spaced_atoms fields) (41 ∷ []))) (in_turn (40 ∷ (head ++ spaced_atoms fields)) (41 ∷ []) p q)

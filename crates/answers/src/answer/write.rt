@@ -1,9 +1,9 @@
 // Writing answers.
-ghost use Rattle.std.specs.Prelude.{◌≡◌, ◌≤◌, map, length, pos, MatchResult};
+ghost use Rattle.std.specs.Prelude.{◌≡◌, ◌≤◌, [], map, length, pos, MatchResult};
 ghost use Rattle.std.specs.List.{AllByRecursion};
 ghost use Rattle.lines.specs.Forms.{word, number};
 ghost use Rattle.line_writer.specs.Areas.{Written, TooSmall};
-ghost use Rattle.line_writer.specs.Lines.{held, atom, render};
+ghost use Rattle.line_writer.specs.Lines.{held, Starts, atom, render};
 ghost use Rattle.answers.specs.Said.{refusal, said, side, Short};
 
 use super::Answer;
@@ -12,16 +12,16 @@ use lines::fault::LineFault;
 use orders::fault::Layer;
 use strategy::word::Word;
 
-// A form with these fields. With up to six of them it is no longer than a line.
-#[inline(always)]
-fn form(head: &str, fields: &[Field]) -> Line
+// A form with these fields, on an empty line. With up to six of them it is no longer than a line.
+fn form(line: &mut Line, head: &str, fields: &[Field])
+    requires empty { Starts (held line.old) [] }
     requires head { length head.now ≤ 9 }
     requires few { length fields.now ≤ 6 }
     requires short { AllByRecursion Short (map atom fields.now) }
-    ensures text { held result ≡ render head.now (map atom fields.now) }
+    ensures text { held line.new ≡ render head.now (map atom fields.now) }
     ensures short { length (render head.now (map atom fields.now)) ≤ 160 }
 {
-    Line::form(head, fields)
+    line.put(head, fields);
 }
 
 #[tactic(auto, using(crate::proofs::Lengths::short_count))]
@@ -70,46 +70,61 @@ impl From<LineFault> for Answer {
 }
 
 impl Answer {
-    // The answer's text. None is longer than a line.
-    pub fn line(self) -> Line
-        ensures text { held result ≡ said self }
+    // The answer's text, on an empty line: there, so that no line is moved.
+    fn write_on(self, line: &mut Line)
+        requires { Starts (held line.old) [] }
+        ensures text { held line.new ≡ said self }
         ensures short { length (said self) ≤ 160 }
     {
         match self {
-            Answer::Series(n) => form("series", &[count(u64::from(n))]),
-            Answer::Notice(n) => form("notice", &[count(u64::from(n))]),
-            Answer::Quote(series) => form("quote", &[count(u64::from(series))]),
-            Answer::Level(series) => form("level", &[count(u64::from(series))]),
+            Answer::Series(n) => form(line, "series", &[count(u64::from(n))]),
+            Answer::Notice(n) => form(line, "notice", &[count(u64::from(n))]),
+            Answer::Quote(series) => form(line, "quote", &[count(u64::from(series))]),
+            Answer::Level(series) => form(line, "level", &[count(u64::from(series))]),
             Answer::Order { number, class } => {
-                form("order", &[count(u64::from(number)), name(class)])
+                form(line, "order", &[count(u64::from(number)), name(class)])
             }
-            Answer::Phase { bell, units } => form("phase", &[name(bell), count(units)]),
-            Answer::Cancel(units) => form("cancel", &[count(units)]),
-            Answer::Work { units, net } => form("work", &[count(units), cents(net)]),
+            Answer::Phase { bell, units } => form(line, "phase", &[name(bell), count(units)]),
+            Answer::Cancel(units) => form(line, "cancel", &[count(units)]),
+            Answer::Work { units, net } => form(line, "work", &[count(units), cents(net)]),
             Answer::Sweep {
                 lines,
                 units,
                 outcome,
             } => form(
+                line,
                 "sweep",
                 &[count(u64::from(lines)), count(units), name(outcome)],
             ),
-            Answer::Net { bid, offer } => form("net", &[price(bid), price(offer)]),
+            Answer::Net { bid, offer } => form(line, "net", &[price(bid), price(offer)]),
             Answer::Refused {
                 number,
                 layer,
                 place,
             } => form(
+                line,
                 "refused",
                 &[count(u64::from(number)), name(layer), count(place)],
             ),
         }
     }
 
+    // The answer's text. None is longer than a line.
+    pub fn line(self) -> Line
+        ensures text { held result ≡ said self }
+        ensures short { length (said self) ≤ 160 }
+    {
+        let mut line = Line::new();
+        self.write_on(&mut line);
+        line
+    }
+
     // Writes the answer to the start of the area, and answers how many bytes it has.
     pub fn write(self, area: &mut [u8]) -> Result<usize, LineFault>
         ensures { MatchResult result (λ n. Written (said self) area.old area.new n) (λ e. TooSmall e area.old area.new) }
     {
-        self.line().copy_to(area)
+        let mut line = Line::new();
+        self.write_on(&mut line);
+        line.copy_to(area)
     }
 }

@@ -8,7 +8,7 @@ use itoa::Buffer;
 
 // Where there is no room left, nothing more is written.
 impl Line {
-    fn new() -> Self
+    pub fn new() -> Self
         ensures { Starts (held result) [] }
     {
         Line {
@@ -58,17 +58,24 @@ impl Line {
         }
     }
 
+    // The form with this head and these fields, behind what the line holds.
+    pub fn put(&mut self, head: &str, fields: &[Field])
+        ensures { Adds (held self.old) (held self.new) (render head.now (map atom fields.now)) }
+    {
+        self.byte(b'(');
+        self.text(head.as_bytes());
+        for field in fields {
+            self.field(*field);
+        }
+        self.byte(b')');
+    }
+
     // The form with this head and these fields. Of more than 160 bytes, the first 160.
     pub fn form(head: &str, fields: &[Field]) -> Self
         ensures { Starts (held result) (render head.now (map atom fields.now)) }
     {
         let mut line = Line::new();
-        line.byte(b'(');
-        line.text(head.as_bytes());
-        for field in fields {
-            line.field(*field);
-        }
-        line.byte(b')');
+        line.put(head, fields);
         line
     }
 }
